@@ -1,0 +1,2 @@
+// What codes look like, and how a refusal is told: alphabets, shapes, run names, faults.
+pub mod fault;
