@@ -1,0 +1,6 @@
+use borrow.Author.Needs.{needs}
+use Rattle.block_cipher.proofs.Numbers.{counted}
+use Rattle.block_cipher.proofs.aes.Aes128.counter_block.Needs as need
+
+pub returns : need.returns
+returns c = counted _ (c .args .iv) (c .to-be-bytes .result) _ (c .from-be-bytes .result) (c .args .i) (search needs) (c .from-be-bytes .ensures) (c .to-be-bytes .ensures) (c .encrypt .ensures)

@@ -1,0 +1,17 @@
+-- The cipher's machine words as bytes, the first byte highest. Assumes nothing.
+--   entry      an entry of a table
+--   quad       the four bytes of a word
+--   bytesOf    the sixteen bytes of four words
+use Prim.Native.Nat.{ℕ, _/_, _%_}
+use mathlib.Core.List.{List, [], _∷_, _++_}
+use lib.ListN.{getD}
+use Rattle.block_cipher.specs.declared.columns.Columns.{Columns}
+
+unfoldable pub entry : List ℕ → ℕ → ℕ
+entry table k = getD table k 0
+
+abbrev pub quad : ℕ → List ℕ
+quad w = (w / 16777216 % 256) ∷ (w / 65536 % 256) ∷ (w / 256 % 256) ∷ (w % 256) ∷ []
+
+abbrev pub bytesOf : Columns → List ℕ
+bytesOf s = quad (s .a) ++ (quad (s .b) ++ (quad (s .c) ++ quad (s .d)))
