@@ -2,6 +2,7 @@
 pub mod aes;
 pub mod cmac;
 pub mod columns;
+pub mod ffi;
 mod rounds;
 mod tables;
 
