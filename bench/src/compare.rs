@@ -13,15 +13,15 @@ const LONG_MESSAGES: [usize; 8] = [255, 256, 257, 1_023, 1_024, 1_025, 4_096, 65
 /// Where two results first differ.
 pub struct Difference {
     place: String,
-    expected: Vec<u8>,
-    found: Vec<u8>,
+    expected: String,
+    found: String,
 }
 
 impl fmt::Display for Difference {
     fn fmt(&self, f: &mut fmt::Formatter) -> fmt::Result {
         writeln!(f, "difference at {}", self.place)?;
-        writeln!(f, "  expected {}", hex(&self.expected))?;
-        write!(f, "  found    {}", hex(&self.found))
+        writeln!(f, "  expected {}", self.expected)?;
+        write!(f, "  found    {}", self.found)
     }
 }
 
@@ -34,15 +34,24 @@ pub struct Counts {
     pub refusals: u64,
 }
 
-/// Runs every comparison, and stops at the first difference.
+/// Runs every comparison, of the library first, and stops at the first difference.
 pub fn check() -> Result<Counts, Difference> {
+    let counts = against_reference::<Library>()?;
+    against_reference::<FourTables>()?;
+    against_reference::<OneTable>()?;
+    Ok(Counts {
+        refusals: refusals()?,
+        ..counts
+    })
+}
+
+fn against_reference<C: Candidate>() -> Result<Counts, Difference> {
     let mut counts = Counts::default();
     let mut random = Random(1);
-    single_bits(&mut counts)?;
-    random_blocks(&mut random, &mut counts)?;
-    counters(&mut random, &mut counts)?;
-    tags(&mut random, &mut counts)?;
-    refusals(&mut random, &mut counts)?;
+    single_bits::<C>(&mut counts)?;
+    random_blocks::<C>(&mut random, &mut counts)?;
+    counters::<C>(&mut random, &mut counts)?;
+    tags::<C>(&mut random, &mut counts)?;
     Ok(counts)
 }
 
@@ -51,120 +60,180 @@ pub fn same(place: impl Fn() -> String, expected: &[u8], found: &[u8]) -> Result
     if expected == found {
         return Ok(());
     }
-    Err(Difference { place: place(), expected: expected.to_vec(), found: found.to_vec() })
+    Err(Difference {
+        place: place(),
+        expected: hex(expected),
+        found: hex(found),
+    })
 }
 
-/// One key set up by every implementation.
-struct Ciphers {
+/// An implementation that is held to the reference. `None` where it refuses.
+trait Candidate {
+    const NAME: &'static str;
+    type Cipher;
+    type Mac;
+
+    fn cipher(key: &Block) -> Option<Self::Cipher>;
+    fn encrypt(cipher: &Self::Cipher, plain: &Block) -> Option<Block>;
+    fn counter(cipher: &Self::Cipher, iv: &Block, i: u64) -> Option<Block>;
+    fn mac(key: &Block) -> Option<Self::Mac>;
+    fn tag(mac: &Self::Mac, message: &[u8]) -> Option<Block>;
+}
+
+struct Library;
+
+impl Candidate for Library {
+    const NAME: &'static str = "the library";
+    type Cipher = library::Aes128;
+    type Mac = library::Cmac;
+
+    fn cipher(key: &Block) -> Option<Self::Cipher> {
+        let mut cipher = library::Aes128::empty();
+        cipher.set_key(key).then_some(cipher)
+    }
+
+    fn encrypt(cipher: &Self::Cipher, plain: &Block) -> Option<Block> {
+        let mut block = *plain;
+        cipher.encrypt(&mut block).then_some(block)
+    }
+
+    fn counter(cipher: &Self::Cipher, iv: &Block, i: u64) -> Option<Block> {
+        let mut block = [0; 16];
+        cipher.counter(iv, i, &mut block).then_some(block)
+    }
+
+    fn mac(key: &Block) -> Option<Self::Mac> {
+        let mut mac = library::Cmac::empty();
+        mac.set_key(key).then_some(mac)
+    }
+
+    fn tag(mac: &Self::Mac, message: &[u8]) -> Option<Block> {
+        let mut tag = [0; 16];
+        mac.tag(message, &mut tag).then_some(tag)
+    }
+}
+
+impl<L: Lookup> Candidate for L {
+    const NAME: &'static str = L::NAME;
+    type Cipher = tables::Aes128<L>;
+    type Mac = tables::Cmac<L>;
+
+    fn cipher(key: &Block) -> Option<Self::Cipher> {
+        Some(tables::Aes128::new(key))
+    }
+
+    fn encrypt(cipher: &Self::Cipher, plain: &Block) -> Option<Block> {
+        let mut block = *plain;
+        cipher.encrypt(&mut block);
+        Some(block)
+    }
+
+    fn counter(cipher: &Self::Cipher, iv: &Block, i: u64) -> Option<Block> {
+        let mut block = [0; 16];
+        cipher.counter(iv, i, &mut block);
+        Some(block)
+    }
+
+    fn mac(key: &Block) -> Option<Self::Mac> {
+        Some(tables::Cmac::new(key))
+    }
+
+    fn tag(mac: &Self::Mac, message: &[u8]) -> Option<Block> {
+        let mut tag = [0; 16];
+        mac.tag(message, &mut tag);
+        Some(tag)
+    }
+}
+
+/// A key set up by the reference and by a candidate.
+struct Ciphers<C: Candidate> {
     key: Block,
     reference: reference::Aes128,
-    library: library::Aes128,
-    four: tables::Aes128<FourTables>,
-    one: tables::Aes128<OneTable>,
+    candidate: C::Cipher,
 }
 
-impl Ciphers {
+impl<C: Candidate> Ciphers<C> {
     fn new(key: Block) -> Result<Self, Difference> {
-        let mut library = library::Aes128::empty();
-        accepted(|| format!("key set-up, key {}", hex(&key)), library.set_key(&key))?;
+        let place = || format!("{}: key set-up, key {}", C::NAME, hex(&key));
+        let candidate = accepted(place, C::cipher(&key))?;
         Ok(Ciphers {
             key,
             reference: reference::Aes128::new(&key),
-            library,
-            four: tables::Aes128::new(&key),
-            one: tables::Aes128::new(&key),
+            candidate,
         })
     }
 
-    /// Compares the encryption of one block.
     fn block(&self, plain: &Block, counts: &mut Counts) -> Result<(), Difference> {
-        let place = |who: &str| format!("{who}: block {}, key {}", hex(plain), hex(&self.key));
-        let expected = self.reference.encrypt(plain);
-        let mut found = *plain;
-        accepted(|| place("library"), self.library.encrypt(&mut found))?;
-        same(|| place("library"), &expected, &found)?;
-        found = *plain;
-        self.four.encrypt(&mut found);
-        same(|| place(FourTables::NAME), &expected, &found)?;
-        found = *plain;
-        self.one.encrypt(&mut found);
-        same(|| place(OneTable::NAME), &expected, &found)?;
+        let place = || format!("{}: block {}, key {}", C::NAME, hex(plain), hex(&self.key));
+        let found = accepted(place, C::encrypt(&self.candidate, plain))?;
         counts.blocks += 1;
-        Ok(())
+        same(place, &self.reference.encrypt(plain), &found)
     }
 
-    /// Compares one counter block.
     fn counter(&self, iv: &Block, i: u64, counts: &mut Counts) -> Result<(), Difference> {
-        let place =
-            |who: &str| format!("{who}: counter {i}, IV {}, key {}", hex(iv), hex(&self.key));
-        let expected = self.reference.counter(iv, i);
-        let mut found = [0; 16];
-        accepted(|| place("library"), self.library.counter(iv, i, &mut found))?;
-        same(|| place("library"), &expected, &found)?;
-        self.four.counter(iv, i, &mut found);
-        same(|| place(FourTables::NAME), &expected, &found)?;
-        self.one.counter(iv, i, &mut found);
-        same(|| place(OneTable::NAME), &expected, &found)?;
+        let place = || {
+            format!(
+                "{}: counter {i}, IV {}, key {}",
+                C::NAME,
+                hex(iv),
+                hex(&self.key)
+            )
+        };
+        let found = accepted(place, C::counter(&self.candidate, iv, i))?;
         counts.counters += 1;
-        Ok(())
+        same(place, &self.reference.counter(iv, i), &found)
     }
 }
 
-/// One CMAC key set up by every implementation.
-struct Macs {
+/// A CMAC key set up by the reference and by a candidate.
+struct Macs<C: Candidate> {
     key: Block,
     reference: reference::Aes128,
-    library: library::Cmac,
-    four: tables::Cmac<FourTables>,
-    one: tables::Cmac<OneTable>,
+    candidate: C::Mac,
 }
 
-impl Macs {
+impl<C: Candidate> Macs<C> {
     fn new(key: Block) -> Result<Self, Difference> {
-        let mut library = library::Cmac::empty();
-        accepted(|| format!("CMAC key set-up, key {}", hex(&key)), library.set_key(&key))?;
+        let place = || format!("{}: CMAC key set-up, key {}", C::NAME, hex(&key));
+        let candidate = accepted(place, C::mac(&key))?;
         Ok(Macs {
             key,
             reference: reference::Aes128::new(&key),
-            library,
-            four: tables::Cmac::new(&key),
-            one: tables::Cmac::new(&key),
+            candidate,
         })
     }
 
-    /// Compares the tag of one message.
     fn tag(&self, message: &[u8], counts: &mut Counts) -> Result<(), Difference> {
-        let place =
-            |who: &str| format!("{who}: tag of {} bytes, key {}", message.len(), hex(&self.key));
-        let expected = self.reference.cmac(message);
-        let mut found = [0; 16];
-        accepted(|| place("library"), self.library.tag(message, &mut found))?;
-        same(|| place("library"), &expected, &found)?;
-        self.four.tag(message, &mut found);
-        same(|| place(FourTables::NAME), &expected, &found)?;
-        self.one.tag(message, &mut found);
-        same(|| place(OneTable::NAME), &expected, &found)?;
+        let place = || {
+            format!(
+                "{}: tag of {} bytes, key {}",
+                C::NAME,
+                message.len(),
+                hex(&self.key)
+            )
+        };
+        let found = accepted(place, C::tag(&self.candidate, message))?;
         counts.tags += 1;
-        Ok(())
+        same(place, &self.reference.cmac(message), &found)
     }
 }
 
 /// Every key and every block that is zero but for one bit, and those that are all zero or all one.
-fn single_bits(counts: &mut Counts) -> Result<(), Difference> {
+fn single_bits<C: Candidate>(counts: &mut Counts) -> Result<(), Difference> {
     let numbers = || (0..128).map(|bit| 1_u128 << bit).chain([0, u128::MAX]);
     for key in numbers() {
-        Ciphers::new(key.to_be_bytes())?.block(&[0; 16], counts)?;
+        Ciphers::<C>::new(key.to_be_bytes())?.block(&[0; 16], counts)?;
     }
-    let zero = Ciphers::new([0; 16])?;
+    let zero = Ciphers::<C>::new([0; 16])?;
     for plain in numbers() {
         zero.block(&plain.to_be_bytes(), counts)?;
     }
     Ok(())
 }
 
-fn random_blocks(random: &mut Random, counts: &mut Counts) -> Result<(), Difference> {
+fn random_blocks<C: Candidate>(random: &mut Random, counts: &mut Counts) -> Result<(), Difference> {
     for _ in 0..RANDOM_KEYS {
-        let ciphers = Ciphers::new(random.block())?;
+        let ciphers = Ciphers::<C>::new(random.block())?;
         for _ in 0..BLOCKS_A_KEY {
             ciphers.block(&random.block(), counts)?;
         }
@@ -173,8 +242,8 @@ fn random_blocks(random: &mut Random, counts: &mut Counts) -> Result<(), Differe
 }
 
 /// Random counters, and those on both sides of a carry out of 64 bits and of the wrap at 2^128.
-fn counters(random: &mut Random, counts: &mut Counts) -> Result<(), Difference> {
-    let ciphers = Ciphers::new(random.block())?;
+fn counters<C: Candidate>(random: &mut Random, counts: &mut Counts) -> Result<(), Difference> {
+    let ciphers = Ciphers::<C>::new(random.block())?;
     for _ in 0..1_000 {
         ciphers.counter(&random.block(), random.next(), counts)?;
     }
@@ -195,10 +264,10 @@ fn counters(random: &mut Random, counts: &mut Counts) -> Result<(), Difference> 
     Ok(())
 }
 
-fn tags(random: &mut Random, counts: &mut Counts) -> Result<(), Difference> {
+fn tags<C: Candidate>(random: &mut Random, counts: &mut Counts) -> Result<(), Difference> {
     let mut message = vec![0; 65_537];
     for _ in 0..CMAC_KEYS {
-        let macs = Macs::new(random.block())?;
+        let macs = Macs::<C>::new(random.block())?;
         random.fill(&mut message);
         for length in (0..=80).chain(LONG_MESSAGES) {
             macs.tag(&message[..length], counts)?;
@@ -207,35 +276,58 @@ fn tags(random: &mut Random, counts: &mut Counts) -> Result<(), Difference> {
     Ok(())
 }
 
-/// Every length other than 16, where 16 is asked for, is refused and leaves what it would fill.
-fn refusals(random: &mut Random, counts: &mut Counts) -> Result<(), Difference> {
-    let text = random.bytes::<64>();
+/// Every length other than 16, where the library asks for 16, is refused, and what it would fill is
+/// left as it was. Returns the number of refusals.
+fn refusals() -> Result<u64, Difference> {
+    let text = Random(2).bytes::<64>();
+    let key = &text[..16];
     let mut cipher = library::Aes128::empty();
-    let mut cmac = library::Cmac::empty();
-    accepted(|| "key set-up".to_string(), cipher.set_key(&text[..16]))?;
-    accepted(|| "CMAC key set-up".to_string(), cmac.set_key(&text[..16]))?;
-    let (schedule, subkeys) = (*cipher.bytes(), *cmac.bytes());
+    let mut mac = library::Cmac::empty();
+    accepted(
+        || "key set-up".to_string(),
+        cipher.set_key(key).then_some(()),
+    )?;
+    accepted(
+        || "CMAC key set-up".to_string(),
+        mac.set_key(key).then_some(()),
+    )?;
+    let (schedule, subkeys) = (*cipher.bytes(), *mac.bytes());
+    let mut count = 0;
     for length in (0..=64).filter(|length| *length != 16) {
-        let place = |what: &str| format!("library: {what} of {length} bytes");
-        let other = &text[64 - length..];
-        refused(|| place("key"), cipher.set_key(other), &schedule, cipher.bytes())?;
-        refused(|| place("CMAC key"), cmac.set_key(other), &subkeys, cmac.bytes())?;
+        let place = |what: &str| format!("the library: {what} of {length} bytes");
+        let wrong = &text[64 - length..];
+        refused(
+            || place("key"),
+            cipher.set_key(wrong),
+            &schedule,
+            cipher.bytes(),
+        )?;
+        refused(
+            || place("CMAC key"),
+            mac.set_key(wrong),
+            &subkeys,
+            mac.bytes(),
+        )?;
         let mut out = text;
         let taken = cipher.encrypt(&mut out[..length]);
         refused(|| place("block"), taken, &text, &out)?;
-        let taken = cipher.counter(&text[..16], 1, &mut out[..length]);
+        let taken = cipher.counter(key, 1, &mut out[..length]);
         refused(|| place("counter block"), taken, &text, &out)?;
-        let taken = cipher.counter(other, 1, &mut out[..16]);
+        let taken = cipher.counter(wrong, 1, &mut out[..16]);
         refused(|| place("IV"), taken, &text, &out)?;
-        let taken = cmac.tag(&text, &mut out[..length]);
+        let taken = mac.tag(&text, &mut out[..length]);
         refused(|| place("tag"), taken, &text, &out)?;
-        counts.refusals += 6;
+        count += 6;
     }
-    Ok(())
+    Ok(count)
 }
 
-fn accepted(place: impl Fn() -> String, taken: bool) -> Result<(), Difference> {
-    same(|| format!("{}: refused", place()), &[1], &[u8::from(taken)])
+fn accepted<T>(place: impl Fn() -> String, result: Option<T>) -> Result<T, Difference> {
+    result.ok_or_else(|| Difference {
+        place: place(),
+        expected: "a result".into(),
+        found: "a refusal".into(),
+    })
 }
 
 fn refused(
@@ -244,8 +336,18 @@ fn refused(
     before: &[u8],
     after: &[u8],
 ) -> Result<(), Difference> {
-    same(|| format!("{}: not refused", place()), &[0], &[u8::from(taken)])?;
-    same(|| format!("{}: refused, but written", place()), before, after)
+    if taken {
+        return Err(Difference {
+            place: place(),
+            expected: "a refusal".into(),
+            found: "a result".into(),
+        });
+    }
+    same(
+        || format!("{}, refused but written", place()),
+        before,
+        after,
+    )
 }
 
 fn hex(bytes: &[u8]) -> String {
@@ -258,9 +360,9 @@ struct Random(u64);
 impl Random {
     fn next(&mut self) -> u64 {
         self.0 = self.0.wrapping_add(0x9e3779b97f4a7c15);
-        let z = (self.0 ^ self.0 >> 30).wrapping_mul(0xbf58476d1ce4e5b9);
-        let z = (z ^ z >> 27).wrapping_mul(0x94d049bb133111eb);
-        z ^ z >> 31
+        let z = (self.0 ^ (self.0 >> 30)).wrapping_mul(0xbf58476d1ce4e5b9);
+        let z = (z ^ (z >> 27)).wrapping_mul(0x94d049bb133111eb);
+        z ^ (z >> 31)
     }
 
     fn fill(&mut self, bytes: &mut [u8]) {

@@ -34,7 +34,11 @@ pub fn side_by_side(name: &'static str, mut ours: impl FnMut(), mut baseline: im
         ours_ns = ours_ns.min(nanoseconds(ours_count, &mut ours));
         baseline_ns = baseline_ns.min(nanoseconds(baseline_count, &mut baseline));
     }
-    Row { name, ours_ns, baseline_ns }
+    Row {
+        name,
+        ours_ns,
+        baseline_ns,
+    }
 }
 
 /// How many operations fill a batch: twice as many until they do. This also warms the caches.

@@ -50,7 +50,14 @@ impl Aes128 {
     pub fn counter(&self, iv: &[u8], i: u64, block: &mut [u8]) -> bool {
         // SAFETY: both are slices, apart from one another, and the schedule is initialised.
         unsafe {
-            block_cipher_counter(self, iv.as_ptr(), iv.len(), i, block.as_mut_ptr(), block.len())
+            block_cipher_counter(
+                self,
+                iv.as_ptr(),
+                iv.len(),
+                i,
+                block.as_mut_ptr(),
+                block.len(),
+            )
         }
     }
 
@@ -73,7 +80,13 @@ impl Cmac {
     pub fn tag(&self, message: &[u8], tag: &mut [u8]) -> bool {
         // SAFETY: both are slices, apart from one another, and the value is initialised.
         unsafe {
-            block_cipher_tag(self, message.as_ptr(), message.len(), tag.as_mut_ptr(), tag.len())
+            block_cipher_tag(
+                self,
+                message.as_ptr(),
+                message.len(),
+                tag.as_mut_ptr(),
+                tag.len(),
+            )
         }
     }
 

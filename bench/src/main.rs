@@ -12,7 +12,6 @@ mod tables;
 
 use harness::Row;
 use std::process::ExitCode;
-use tables::{FourTables, Lookup, OneTable};
 
 fn main() -> ExitCode {
     if cfg!(feature = "stand-in") {
@@ -38,15 +37,17 @@ fn main() -> ExitCode {
 
 /// The measures against the faster variant of the table code.
 fn measured() -> Vec<Row> {
-    let (four, one) = measures::variants();
-    println!("{}: {four:.1} ns a block; {}: {one:.1} ns.", FourTables::NAME, OneTable::NAME);
-    if four <= one {
-        println!("The baseline is {}.\n", FourTables::NAME);
-        measures::block_cipher::<FourTables>()
-    } else {
-        println!("The baseline is {}.\n", OneTable::NAME);
-        measures::block_cipher::<OneTable>()
+    let [four, one] = measures::variants();
+    for variant in [&four, &one] {
+        println!("{:.1} ns a block by {}", variant.block_ns, variant.name);
     }
+    let faster = if four.block_ns <= one.block_ns {
+        four
+    } else {
+        one
+    };
+    println!("The baseline is {}.\n", faster.name);
+    (faster.measures)()
 }
 
 /// A table in Markdown, as the README keeps it.
@@ -62,7 +63,9 @@ fn print(rows: &[Row]) {
             row.ratio()
         );
     }
-    let [block, key_set_up, ..] = rows else { return };
+    let [block, key_set_up, ..] = rows else {
+        return;
+    };
     println!(
         "\nA block: {:.2} times the baseline (goal: at most 1.15).",
         block.ratio()

@@ -8,16 +8,29 @@ use crate::tables::{Aes128, Cmac, FourTables, Lookup, OneTable};
 const KEY: [u8; 16] = *b"a key to measure";
 const COUNTER_BLOCKS: u64 = 25;
 
-/// The two variants of the table code side by side: four tables, then one table with rotations.
-pub fn variants() -> (f64, f64) {
-    let (four, one) = (Aes128::<FourTables>::new(&KEY), Aes128::<OneTable>::new(&KEY));
+/// A variant of the table code: its name, its time for a block, and the measures against it.
+pub struct Variant {
+    pub name: &'static str,
+    pub block_ns: f64,
+    pub measures: fn() -> Vec<Row>,
+}
+
+/// Both variants of the table code, timed side by side.
+pub fn variants() -> [Variant; 2] {
+    let (four, one) = (
+        Aes128::<FourTables>::new(&KEY),
+        Aes128::<OneTable>::new(&KEY),
+    );
     let (mut a, mut b) = ([0; 16], [0; 16]);
     let row = side_by_side("variants", || four.encrypt(&mut a), || one.encrypt(&mut b));
-    (row.ours_ns, row.baseline_ns)
+    [
+        variant::<FourTables>(row.ours_ns),
+        variant::<OneTable>(row.baseline_ns),
+    ]
 }
 
 /// Every measure of the block cipher against the variant `L`: a block and a key set-up first.
-pub fn block_cipher<L: Lookup>() -> Vec<Row> {
+fn block_cipher<L: Lookup>() -> Vec<Row> {
     vec![
         one_block::<L>(),
         key_set_up::<L>(),
@@ -26,6 +39,14 @@ pub fn block_cipher<L: Lookup>() -> Vec<Row> {
         tag::<L, 1_024>("CMAC of 1,024 bytes"),
         counter_blocks::<L>(),
     ]
+}
+
+fn variant<L: Lookup>(block_ns: f64) -> Variant {
+    Variant {
+        name: L::NAME,
+        block_ns,
+        measures: block_cipher::<L>,
+    }
 }
 
 fn one_block<L: Lookup>() -> Row {

@@ -23,7 +23,12 @@ pub fn check() -> Result<(), Difference> {
 /// FIPS 197, appendix B and appendix C.1.
 fn blocks() -> Result<(), Difference> {
     let examples = [
-        ("FIPS 197 appendix B", KEY, 0x3243f6a8885a308d313198a2e0370734, 0x3925841d02dc09fbdc118597196a0b32),
+        (
+            "FIPS 197 appendix B",
+            KEY,
+            0x3243f6a8885a308d313198a2e0370734,
+            0x3925841d02dc09fbdc118597196a0b32,
+        ),
         (
             "FIPS 197 appendix C.1",
             0x000102030405060708090a0b0c0d0e0f,
@@ -49,7 +54,11 @@ fn counters() -> Result<(), Difference> {
         0xe89c399ff0f198c6d40a31db156cabfe,
     ];
     for (i, expected) in (0..).zip(outputs) {
-        same(|| format!("SP 800-38A output block {i}"), &block(expected), &cipher.counter(&iv, i))?;
+        same(
+            || format!("SP 800-38A output block {i}"),
+            &block(expected),
+            &cipher.counter(&iv, i),
+        )?;
     }
     Ok(())
 }
@@ -58,8 +67,16 @@ fn counters() -> Result<(), Difference> {
 fn tags() -> Result<(), Difference> {
     let cipher = Aes128::new(&block(KEY));
     let (k1, k2) = cipher.subkeys();
-    same(|| "SP 800-38B K1".to_string(), &block(0xfbeed618357133667c85e08f7236a8de), &k1)?;
-    same(|| "SP 800-38B K2".to_string(), &block(0xf7ddac306ae266ccf90bc11ee46d513b), &k2)?;
+    same(
+        || "SP 800-38B K1".to_string(),
+        &block(0xfbeed618357133667c85e08f7236a8de),
+        &k1,
+    )?;
+    same(
+        || "SP 800-38B K2".to_string(),
+        &block(0xf7ddac306ae266ccf90bc11ee46d513b),
+        &k2,
+    )?;
     let message = MESSAGE.map(block);
     let examples = [
         (0, 0xbb1d6929e95937287fa37d129b756746),
@@ -70,7 +87,11 @@ fn tags() -> Result<(), Difference> {
     ];
     for (length, expected) in examples {
         let found = cipher.cmac(&message.as_flattened()[..length]);
-        same(|| format!("SP 800-38B tag of {length} bytes"), &block(expected), &found)?;
+        same(
+            || format!("SP 800-38B tag of {length} bytes"),
+            &block(expected),
+            &found,
+        )?;
     }
     Ok(())
 }

@@ -60,7 +60,11 @@ impl Aes128 {
         let mut sum = *iv;
         let mut carry = 0;
         for (place, byte) in sum.iter_mut().rev().enumerate() {
-            let digit = if place < 8 { (i >> (8 * place)) as u8 } else { 0 };
+            let digit = if place < 8 {
+                (i >> (8 * place)) as u8
+            } else {
+                0
+            };
             let total = u16::from(*byte) + u16::from(digit) + carry;
             *byte = total as u8;
             carry = total >> 8;
@@ -104,7 +108,11 @@ pub const fn sub_byte(byte: u8) -> u8 {
 /// xtime: twice a byte in GF(2^8), modulo x^8 + x^4 + x^3 + x + 1.
 pub const fn double(byte: u8) -> u8 {
     let shifted = byte << 1;
-    if byte & 0x80 == 0 { shifted } else { shifted ^ 0x1b }
+    if byte & 0x80 == 0 {
+        shifted
+    } else {
+        shifted ^ 0x1b
+    }
 }
 
 /// The product of two bytes in GF(2^8).
@@ -167,7 +175,11 @@ fn mix_columns(state: &mut State) {
 }
 
 fn add_round_key(state: &mut State, round_key: &State) {
-    for (byte, key) in state.as_flattened_mut().iter_mut().zip(round_key.as_flattened()) {
+    for (byte, key) in state
+        .as_flattened_mut()
+        .iter_mut()
+        .zip(round_key.as_flattened())
+    {
         *byte ^= key;
     }
 }

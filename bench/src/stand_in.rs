@@ -2,16 +2,18 @@
 //! the harness be tried where the library is not built. Its ratios must come out near 1.
 
 use crate::reference::Block;
-use crate::tables::{Aes128, Cmac, OneTable};
+use crate::tables::{Aes128, Cmac, FourTables};
 use std::slice;
 
-type Cipher = Aes128<OneTable>;
-type Mac = Cmac<OneTable>;
+type Cipher = Aes128<FourTables>;
+type Mac = Cmac<FourTables>;
 
 #[unsafe(no_mangle)]
 #[inline(never)]
 unsafe extern "C" fn block_cipher_aes128(key: *const u8, key_len: usize, out: *mut Cipher) -> bool {
-    let Some(key) = (unsafe { block(key, key_len) }) else { return false };
+    let Some(key) = (unsafe { block(key, key_len) }) else {
+        return false;
+    };
     unsafe { *out = Aes128::new(key) };
     true
 }
@@ -19,7 +21,9 @@ unsafe extern "C" fn block_cipher_aes128(key: *const u8, key_len: usize, out: *m
 #[unsafe(no_mangle)]
 #[inline(never)]
 unsafe extern "C" fn block_cipher_encrypt(cipher: &Cipher, text: *mut u8, len: usize) -> bool {
-    let Some(text) = (unsafe { block_mut(text, len) }) else { return false };
+    let Some(text) = (unsafe { block_mut(text, len) }) else {
+        return false;
+    };
     cipher.encrypt(text);
     true
 }
@@ -34,8 +38,12 @@ unsafe extern "C" fn block_cipher_counter(
     out: *mut u8,
     len: usize,
 ) -> bool {
-    let Some(iv) = (unsafe { block(iv, iv_len) }) else { return false };
-    let Some(out) = (unsafe { block_mut(out, len) }) else { return false };
+    let Some(iv) = (unsafe { block(iv, iv_len) }) else {
+        return false;
+    };
+    let Some(out) = (unsafe { block_mut(out, len) }) else {
+        return false;
+    };
     cipher.counter(iv, i, out);
     true
 }
@@ -43,7 +51,9 @@ unsafe extern "C" fn block_cipher_counter(
 #[unsafe(no_mangle)]
 #[inline(never)]
 unsafe extern "C" fn block_cipher_cmac(key: *const u8, key_len: usize, out: *mut Mac) -> bool {
-    let Some(key) = (unsafe { block(key, key_len) }) else { return false };
+    let Some(key) = (unsafe { block(key, key_len) }) else {
+        return false;
+    };
     unsafe { *out = Cmac::new(key) };
     true
 }
@@ -57,7 +67,9 @@ unsafe extern "C" fn block_cipher_tag(
     tag: *mut u8,
     tag_len: usize,
 ) -> bool {
-    let Some(tag) = (unsafe { block_mut(tag, tag_len) }) else { return false };
+    let Some(tag) = (unsafe { block_mut(tag, tag_len) }) else {
+        return false;
+    };
     cmac.tag(unsafe { slice::from_raw_parts(message, message_len) }, tag);
     true
 }
@@ -67,5 +79,7 @@ unsafe fn block<'a>(start: *const u8, len: usize) -> Option<&'a Block> {
 }
 
 unsafe fn block_mut<'a>(start: *mut u8, len: usize) -> Option<&'a mut Block> {
-    unsafe { slice::from_raw_parts_mut(start, len) }.try_into().ok()
+    unsafe { slice::from_raw_parts_mut(start, len) }
+        .try_into()
+        .ok()
 }

@@ -10,11 +10,12 @@ use std::marker::PhantomData;
 
 type Words = [u32; 4];
 
-/// How a column comes from the four bytes that ShiftRows moves into it.
+/// How a column of the next state comes from its round key and the four bytes that ShiftRows moves
+/// into it. The key goes in first: it waits for nothing.
 pub trait Lookup {
     const NAME: &'static str;
 
-    fn column(a: u8, b: u8, c: u8, d: u8) -> u32;
+    fn column(key: u32, a: u8, b: u8, c: u8, d: u8) -> u32;
 }
 
 /// A table of 1 KiB for each row.
@@ -24,8 +25,8 @@ impl Lookup for FourTables {
     const NAME: &'static str = "four tables";
 
     #[inline(always)]
-    fn column(a: u8, b: u8, c: u8, d: u8) -> u32 {
-        ROW_0.at(a) ^ ROW_1.at(b) ^ ROW_2.at(c) ^ ROW_3.at(d)
+    fn column(key: u32, a: u8, b: u8, c: u8, d: u8) -> u32 {
+        ((key ^ ROWS[0].at(a)) ^ ROWS[1].at(b)) ^ (ROWS[2].at(c) ^ ROWS[3].at(d))
     }
 }
 
@@ -36,11 +37,9 @@ impl Lookup for OneTable {
     const NAME: &'static str = "one table with rotations";
 
     #[inline(always)]
-    fn column(a: u8, b: u8, c: u8, d: u8) -> u32 {
-        ROW_0.at(a)
-            ^ ROW_0.at(b).rotate_left(8)
-            ^ ROW_0.at(c).rotate_left(16)
-            ^ ROW_0.at(d).rotate_left(24)
+    fn column(key: u32, a: u8, b: u8, c: u8, d: u8) -> u32 {
+        let [a, b, c, d] = [a, b, c, d].map(|byte| ROWS[0].at(byte));
+        key ^ a ^ b.rotate_left(8) ^ c.rotate_left(16) ^ d.rotate_left(24)
     }
 }
 
@@ -61,7 +60,10 @@ impl<L: Lookup> Aes128<L> {
             d ^= c;
             *round_key = [a, b, c, d];
         }
-        Aes128 { round_keys, lookup: PhantomData }
+        Aes128 {
+            round_keys,
+            lookup: PhantomData,
+        }
     }
 
     #[inline(never)]
@@ -112,7 +114,11 @@ impl<L: Lookup> Cmac<L> {
         let zero = u128::from_be_bytes(bytes(cipher.cipher([0; 4])));
         let whole = doubled(zero);
         let padded = doubled(whole);
-        Cmac { cipher, whole: words(&whole.to_be_bytes()), padded: words(&padded.to_be_bytes()) }
+        Cmac {
+            cipher,
+            whole: words(&whole.to_be_bytes()),
+            padded: words(&padded.to_be_bytes()),
+        }
     }
 
     #[inline(never)]
@@ -145,10 +151,10 @@ impl<L: Lookup> Cmac<L> {
 fn round<L: Lookup>(state: Words, key: &Words) -> Words {
     let [a, b, c, d] = state.map(u32::to_le_bytes);
     [
-        L::column(a[0], b[1], c[2], d[3]) ^ key[0],
-        L::column(b[0], c[1], d[2], a[3]) ^ key[1],
-        L::column(c[0], d[1], a[2], b[3]) ^ key[2],
-        L::column(d[0], a[1], b[2], c[3]) ^ key[3],
+        L::column(key[0], a[0], b[1], c[2], d[3]),
+        L::column(key[1], b[0], c[1], d[2], a[3]),
+        L::column(key[2], c[0], d[1], a[2], b[3]),
+        L::column(key[3], d[0], a[1], b[2], c[3]),
     ]
 }
 
@@ -186,18 +192,17 @@ fn words(block: &Block) -> Words {
     std::array::from_fn(|i| u32::from_le_bytes(columns[i]))
 }
 
+/// Joined as one number, since the compiler makes slower code of four words stored side by side.
 #[inline(always)]
 fn bytes(words: Words) -> Block {
-    let mut block = [0; 16];
-    for (column, word) in block.as_chunks_mut().0.iter_mut().zip(words) {
-        *column = word.to_le_bytes();
-    }
-    block
+    let [a, b, c, d] = words.map(u64::from);
+    let (low, high) = (a | b << 32, c | d << 32);
+    (u128::from(low) | u128::from(high) << 64).to_le_bytes()
 }
 
 /// Twice a block in GF(2^128), modulo x^128 + x^7 + x^2 + x + 1.
 fn doubled(block: u128) -> u128 {
-    block << 1 ^ (block >> 127) * 0x87
+    (block << 1) ^ ((block >> 127) * 0x87)
 }
 
 /// A table by bytes, at the start of a cache line.
@@ -221,10 +226,7 @@ static SBOX: Table<u8> = {
     Table(table)
 };
 
-static ROW_0: Table<u32> = row(0);
-static ROW_1: Table<u32> = row(1);
-static ROW_2: Table<u32> = row(2);
-static ROW_3: Table<u32> = row(3);
+static ROWS: [Table<u32>; 4] = [row(0), row(1), row(2), row(3)];
 
 /// What a byte in row `r`, once substituted, adds to its column in MixColumns.
 const fn row(r: u32) -> Table<u32> {
