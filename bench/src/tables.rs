@@ -11,7 +11,7 @@ use std::marker::PhantomData;
 type Words = [u32; 4];
 
 /// How a column of the next state comes from its round key and the four bytes that ShiftRows moves
-/// into it. The key goes in first: it waits for nothing.
+/// into it.
 pub trait Lookup {
     const NAME: &'static str;
 
