@@ -6,25 +6,20 @@ mod library;
 mod measures;
 mod published;
 mod reference;
-#[cfg(feature = "stand-in")]
-mod stand_in;
 mod tables;
 
 use harness::Row;
 use std::process::ExitCode;
 
 fn main() -> ExitCode {
-    if cfg!(feature = "stand-in") {
-        println!("A stand-in is measured here, not the library.\n");
-    }
     if let Err(difference) = published::check() {
         eprintln!("the reference is wrong: {difference}");
         return ExitCode::FAILURE;
     }
     match compare::check() {
         Ok(counts) => println!(
-            "No difference in {} blocks, {} counter blocks, {} tags and {} refusals.\n",
-            counts.blocks, counts.counters, counts.tags, counts.refusals
+            "No difference in {} blocks, {} counter blocks and {} tags.\n",
+            counts.blocks, counts.counters, counts.tags
         ),
         Err(difference) => {
             eprintln!("{difference}");

@@ -50,35 +50,28 @@ fn variant<L: Lookup>(block_ns: f64) -> Variant {
 }
 
 fn one_block<L: Lookup>() -> Row {
-    let (ours, baseline) = (cipher(&KEY), Aes128::<L>::new(&KEY));
+    let (ours, baseline) = (library::Aes128::new(&KEY), Aes128::<L>::new(&KEY));
     let (mut a, mut b) = ([0; 16], [0; 16]);
     side_by_side(
         "one block",
-        || {
-            ours.encrypt(&mut a);
-        },
+        || ours.encrypt(&mut a),
         || baseline.encrypt(&mut b),
     )
 }
 
 /// The next key is the end of the schedule of the one before.
 fn key_set_up<L: Lookup>() -> Row {
-    let mut ours = library::Aes128::empty();
     let (mut a, mut b) = (KEY, KEY);
     side_by_side(
         "one key set-up",
-        || {
-            ours.set_key(&a);
-            a.copy_from_slice(&ours.bytes()[160..]);
-        },
+        || a = library::Aes128::new(&a).last_round_key(),
         || b = Aes128::<L>::new(&b).last_round_key(),
     )
 }
 
 /// The next message begins with the tag of the one before. The subkeys are made once.
 fn tag<L: Lookup, const LENGTH: usize>(name: &'static str) -> Row {
-    let mut ours = library::Cmac::empty();
-    ours.set_key(&KEY);
+    let ours = library::Cmac::new(&KEY);
     let baseline = Cmac::<L>::new(&KEY);
     let (mut a, mut b) = ([0; LENGTH], [0; LENGTH]);
     let (mut a_tag, mut b_tag) = ([0; 16], [0; 16]);
@@ -97,7 +90,7 @@ fn tag<L: Lookup, const LENGTH: usize>(name: &'static str) -> Row {
 
 /// The next IV is the last block of the run before.
 fn counter_blocks<L: Lookup>() -> Row {
-    let (ours, baseline) = (cipher(&KEY), Aes128::<L>::new(&KEY));
+    let (ours, baseline) = (library::Aes128::new(&KEY), Aes128::<L>::new(&KEY));
     let (mut a, mut b) = ([0xff; 16], [0xff; 16]);
     let (mut a_block, mut b_block) = ([0; 16], [0; 16]);
     side_by_side(
@@ -115,10 +108,4 @@ fn counter_blocks<L: Lookup>() -> Row {
             b = b_block;
         },
     )
-}
-
-fn cipher(key: &[u8]) -> library::Aes128 {
-    let mut cipher = library::Aes128::empty();
-    cipher.set_key(key);
-    cipher
 }
