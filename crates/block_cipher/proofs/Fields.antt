@@ -21,25 +21,36 @@ substituted table e t k h = eqb→eq (getD table k 0) (sbox k) (at substitutes t
 
 -- a word has these four bytes
 abbrev holds : ℕ → ℕ → ℕ → ℕ → ℕ → Bool
-holds w a b c d = eqb (w / 16777216 % 256) a && (eqb (w / 65536 % 256) b && (eqb (w / 256 % 256) c && eqb (w % 256) d))
+holds w a b c d = eqb (w % 256) a && (eqb (w / 256 % 256) b && (eqb (w / 65536 % 256) c && eqb (w / 16777216 % 256) d))
 
 holds-quad : (w a b c d : ℕ) → T (holds w a b c d) → quad w ≡ a ∷ b ∷ c ∷ d ∷ []
 holds-quad w a b c d t =
-    let t1 = both-right (eqb (w / 16777216 % 256) a) _ t in
-    let t2 = both-right (eqb (w / 65536 % 256) b) _ t1 in
-    let e0 = eqb→eq (w / 16777216 % 256) a (both-left _ _ t) in
-    let e1 = eqb→eq (w / 65536 % 256) b (both-left _ _ t1) in
-    let e2 = eqb→eq (w / 256 % 256) c (both-left _ _ t2) in
-    let e3 = eqb→eq (w % 256) d (both-right (eqb (w / 256 % 256) c) _ t2) in
+    let t1 = both-right (eqb (w % 256) a) _ t in
+    let t2 = both-right (eqb (w / 256 % 256) b) _ t1 in
+    let e0 = eqb→eq (w % 256) a (both-left _ _ t) in
+    let e1 = eqb→eq (w / 256 % 256) b (both-left _ _ t1) in
+    let e2 = eqb→eq (w / 65536 % 256) c (both-left _ _ t2) in
+    let e3 = eqb→eq (w / 16777216 % 256) d (both-right (eqb (w / 65536 % 256) c) _ t2) in
     cc
 
--- an entry of the S-box with MixColumns after it
-abbrev pub mixes : ℕ → ℕ → Bool
-mixes k w = holds w (mul (sbox k) 2) (sbox k) (sbox k) (mul (sbox k) 3)
+-- an entry of a row's table: the bytes a, b, c and d of the S-box's answer
+module _ (a b c d : ℕ → ℕ) where
+  abbrev pub mixes : ℕ → ℕ → Bool
+  mixes k w = holds w (a (sbox k)) (b (sbox k)) (c (sbox k)) (d (sbox k))
 
-pub mixed-by : (table : List ℕ) → length table ≡ 256 → T (every mixes 0 table) → (k : ℕ) → k < 256 → quad (entry table k) ≡ mul (sbox k) 2 ∷ sbox k ∷ sbox k ∷ mul (sbox k) 3 ∷ []
-unfolding entry
-mixed-by table e t k h = holds-quad (getD table k 0) (mul (sbox k) 2) (sbox k) (sbox k) (mul (sbox k) 3) (at mixes table t k (rw e h))
+  pub mixed-by : (table : List ℕ) → length table ≡ 256 → T (every mixes 0 table) → (k : ℕ) → k < 256 → quad (entry table k) ≡ a (sbox k) ∷ b (sbox k) ∷ c (sbox k) ∷ d (sbox k) ∷ []
+  unfolding entry
+  mixed-by table e t k h = holds-quad (getD table k 0) (a (sbox k)) (b (sbox k)) (c (sbox k)) (d (sbox k)) (at mixes table t k (rw e h))
+
+-- one, two and three times a byte
+abbrev pub once : ℕ → ℕ
+once x = x
+
+abbrev pub twice : ℕ → ℕ
+twice x = mul x 2
+
+abbrev pub thrice : ℕ → ℕ
+thrice x = mul x 3
 
 -- the inverse, at b + 1
 abbrev inverts : ℕ → Bool

@@ -12,7 +12,7 @@ use Rattle.std.proofs.shelf.Tests.{cond-true, cond-false, lt-ltb, le-ltb, eq-eq
 use Rattle.block_cipher.specs.Aes.{xorBlock, cipher}
 use Rattle.block_cipher.specs.Counter.{number, bytes16}
 use Rattle.block_cipher.specs.Cmac.{zeros, shiftLeft, doubled, subkey1, subkey2, padded, lastBlock, chained, before, cmac}
-use Rattle.block_cipher.proofs.Numbers.{sum16, sum-number, big16, big-bytes}
+use Rattle.block_cipher.proofs.Numbers.{sum16, sum-number}
 
 pub doubled-low : (n r : ℕ) → n / 2 ^ 127 ≡ 0 → r ≡ n * 2 % 2 ^ 128 → r ≡ doubled n
 doubled-low n r h e = e ∙ sym (cond-true (ltb n (2 ^ 127)) (shiftLeft n) (bitXor (shiftLeft n) 0x87) (lt-ltb n (2 ^ 127) (omega arith)))
@@ -20,8 +20,8 @@ doubled-low n r h e = e ∙ sym (cond-true (ltb n (2 ^ 127)) (shiftLeft n) (bitX
 pub doubled-high : (n r : ℕ) → 2 ^ 127 ≤ n → r ≡ bitXor (n * 2 % 2 ^ 128) 0x87 → r ≡ doubled n
 doubled-high n r h e = e ∙ sym (cond-false (ltb n (2 ^ 127)) (shiftLeft n) (bitXor (shiftLeft n) 0x87) (le-ltb n (2 ^ 127) h))
 
-pub doubles : (x b : List ℕ) (n r : ℕ) → length x ≡ 16 → n ≡ sum16 x → r ≡ doubled n → b ≡ big16 r → b ≡ bytes16 (doubled (number x))
-doubles x b n r h en er eb = eb ∙ big-bytes r ∙ ap bytes16 (er ∙ ap doubled (en ∙ sum-number x h))
+pub doubles : (x b : List ℕ) (n r : ℕ) → length x ≡ 16 → n ≡ sum16 x → r ≡ doubled n → b ≡ bytes16 r → b ≡ bytes16 (doubled (number x))
+doubles x b n r h en er eb = eb ∙ ap bytes16 (er ∙ ap doubled (en ∙ sum-number x h))
 
 pub pads : (rest part : List ℕ) (k : ℕ) → part ≡ rest → k ≡ length rest → length rest < 16 → set (part ++ drop k zeros) (length rest) 0x80 ≡ padded rest
 pads rest part k ep ek h =

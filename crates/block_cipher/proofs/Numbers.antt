@@ -1,13 +1,17 @@
 -- Sixteen bytes as a number, and a number as sixteen bytes. Assumes nothing.
 use mathlib.Core.Path.{_≡_, refl, ap, sym, _∙_}
-use mathlib.Core.List.{List, [], _∷_}
+use mathlib.Core.List.{List, [], _∷_, _++_}
 use Prim.Native.Nat.{ℕ, _+_, _*_, _/_, _%_, _^_}
 use native.Mathlib.Nat.{div-one}
 use native.Mathlib.Omega.{arith}
+use lib.Bits.{bitAnd, and-mask}
+use lib.Dec.{lit<}
 use lib.ListN.{length, getD}
+use Rattle.std.proofs.shelf.Bits.{field-of, mod-pow-add, mod-mul-add, mod-below, shr-shr}
 use Rattle.block_cipher.specs.Aes.{block, cipher}
 use Rattle.block_cipher.specs.Counter.{number, bytes16, counterBlock}
-use Rattle.block_cipher.proofs.Quads.{whole}
+use Rattle.block_cipher.specs.Words.{quad}
+use Rattle.block_cipher.proofs.Quads.{whole, word-of, join4}
 
 -- what `from_be_bytes` answers
 abbrev pub sum16 : List ℕ → ℕ
@@ -16,13 +20,31 @@ sum16 xs = getD xs 0 0 * 1329227995784915872903807060280344576 + getD xs 1 0 * 5
 pub sum-number : (xs : List ℕ) → length xs ≡ 16 → sum16 xs ≡ number xs
 sum-number xs h = let e : sum16 xs ≡ number (block (λ k. getD xs k 0)) = omega arith in e ∙ ap number (whole xs h)
 
--- what `to_be_bytes` answers
-abbrev pub big16 : ℕ → List ℕ
-big16 n = (n / 1329227995784915872903807060280344576 % 256) ∷ (n / 5192296858534827628530496329220096 % 256) ∷ (n / 20282409603651670423947251286016 % 256) ∷ (n / 79228162514264337593543950336 % 256) ∷ (n / 309485009821345068724781056 % 256) ∷ (n / 1208925819614629174706176 % 256) ∷ (n / 4722366482869645213696 % 256) ∷ (n / 18446744073709551616 % 256) ∷ (n / 72057594037927936 % 256) ∷ (n / 281474976710656 % 256) ∷ (n / 1099511627776 % 256) ∷ (n / 4294967296 % 256) ∷ (n / 16777216 % 256) ∷ (n / 65536 % 256) ∷ (n / 256 % 256) ∷ (n % 256) ∷ []
-
-pub big-bytes : (n : ℕ) → big16 n ≡ bytes16 n
-big-bytes n = let e : n % 256 ≡ n / 1 % 256 = ap (λ m. m % 256) (sym (div-one n)) in cc
-
-pub counted : (key iv b out : List ℕ) (n i : ℕ) → length iv ≡ 16 → n ≡ sum16 iv → b ≡ big16 ((n + i) % 2 ^ 128) → out ≡ cipher key b → out ≡ counterBlock key iv i
+pub counted : (key iv b out : List ℕ) (n i : ℕ) → length iv ≡ 16 → n ≡ sum16 iv → b ≡ bytes16 ((n + i) % 2 ^ 128) → out ≡ cipher key b → out ≡ counterBlock key iv i
 unfolding counterBlock
-counted key iv b out n i h en eb eo = eo ∙ ap (cipher key) (eb ∙ big-bytes _ ∙ ap (λ m. bytes16 ((m + i) % 2 ^ 128)) (en ∙ sum-number iv h))
+counted key iv b out n i h en eb eo = eo ∙ ap (cipher key) (eb ∙ ap (λ m. bytes16 ((m + i) % 2 ^ 128)) (en ∙ sum-number iv h))
+
+-- the four bytes of m modulo 2^32, the first byte highest
+abbrev high : ℕ → List ℕ
+high m = (m / 16777216 % 256) ∷ (m / 65536 % 256) ∷ (m / 256 % 256) ∷ (m % 256) ∷ []
+
+digit : (m j k : ℕ) → m % 2 ^ (j + 8 + k) / 2 ^ k % 2 ^ 8 ≡ m / 2 ^ k % 2 ^ 8
+digit m j k =
+    ap (λ n. n % 2 ^ 8) (field-of m (j + 8) k ∙ mod-pow-add (m / 2 ^ k) j 8) ∙ mod-mul-add (m / 2 ^ k / 2 ^ 8 % 2 ^ j) (2 ^ 8) (m / 2 ^ k % 2 ^ 8) (mod-below (m / 2 ^ k) (2 ^ 8) (lit< tt))
+
+high-low : (m : ℕ) → high (m % 4294967296) ≡ high m
+high-low m = word-of refl (digit m 0 24) (digit m 8 16) (digit m 16 8) (ap (λ n. n % 256) (mod-pow-add m 24 8) ∙ mod-mul-add (m / 256 % 2 ^ 24) 256 (m % 256) (mod-below m 256 (lit< tt)))
+
+pub columns : (n a b c d : ℕ)
+    → quad a ≡ high (bitAnd (n / 2 ^ 96) 4294967295)
+    → quad b ≡ high (bitAnd (n / 2 ^ 64) 4294967295)
+    → quad c ≡ high (bitAnd (n / 2 ^ 32) 4294967295)
+    → quad d ≡ high (bitAnd n 4294967295)
+    → quad a ++ (quad b ++ (quad c ++ quad d)) ≡ bytes16 n
+columns n a b c d ea eb ec ed =
+    let whole-word : (w m : ℕ) → quad w ≡ high (bitAnd m 4294967295) → quad w ≡ high m = λ w m e. e ∙ ap high (and-mask m 32) ∙ high-low m in
+    let part : (s k : ℕ) → n / 2 ^ s / 2 ^ k % 256 ≡ n / 2 ^ (s + k) % 256 = λ s k. ap (λ m. m % 256) (shr-shr n s k) in
+    join4 (word-of (whole-word a (n / 2 ^ 96) ea) (part 96 24) (part 96 16) (part 96 8) refl)
+    (word-of (whole-word b (n / 2 ^ 64) eb) (part 64 24) (part 64 16) (part 64 8) refl)
+    (word-of (whole-word c (n / 2 ^ 32) ec) (part 32 24) (part 32 16) (part 32 8) refl)
+    (word-of (whole-word d n ed) refl refl refl (ap (λ m. m % 256) (sym (div-one n))))

@@ -3,9 +3,8 @@ use mathlib.Core.Path.{_≡_, refl, ap, sym, _∙_}
 use mathlib.Core.List.{List, [], _∷_, _++_}
 use Prim.Native.Nat.{ℕ, zero, suc, _+_, _-_, _*_, _/_, _%_, _<_, _^_}
 use native.Mathlib.Omega.{arith}
-use lib.Bits.{bitOr, bitXor, xor-zero-r, xor-shr, xor-mod, xor-assoc, xor-comm, or-shifted-r}
+use lib.Bits.{bitXor, xor-zero-r, xor-shr, xor-mod, xor-assoc, xor-comm}
 use lib.ListN.{length, getD}
-use Rattle.std.proofs.shelf.Bits.{mod-mul-add, mod-pow-add, shr-shr}
 use Rattle.block_cipher.specs.Field.{mul, sbox}
 use Rattle.block_cipher.specs.Aes.{block, mixRow, xorWord, subWord, rotWord, rconWord}
 use Rattle.block_cipher.specs.Words.{quad}
@@ -15,52 +14,16 @@ cons4 p q r s = cc
 
 pub quad-xor : (v w : ℕ) → quad (bitXor v w) ≡ xorWord (quad v) (quad w)
 quad-xor v w =
-    cons4 (ap (λ x. x % 256) (xor-shr v w 24) ∙ xor-mod (v / 16777216) (w / 16777216) 8)
+    cons4 (xor-mod v w 8) (ap (λ x. x % 256) (xor-shr v w 8) ∙ xor-mod (v / 256) (w / 256) 8)
     (ap (λ x. x % 256) (xor-shr v w 16) ∙ xor-mod (v / 65536) (w / 65536) 8)
-    (ap (λ x. x % 256) (xor-shr v w 8) ∙ xor-mod (v / 256) (w / 256) 8)
-    (xor-mod v w 8)
+    (ap (λ x. x % 256) (xor-shr v w 24) ∙ xor-mod (v / 16777216) (w / 16777216) 8)
 
-pub quad-word : (a b c d : ℕ) → a < 256 → b < 256 → c < 256 → d < 256 → quad (a * 16777216 + b * 65536 + c * 256 + d) ≡ a ∷ b ∷ c ∷ d ∷ []
+pub quad-word : (a b c d : ℕ) → a < 256 → b < 256 → c < 256 → d < 256 → quad (a + b * 256 + c * 65536 + d * 16777216) ≡ a ∷ b ∷ c ∷ d ∷ []
 quad-word a b c d ha hb hc hd = cons4 (omega arith) (omega arith) (omega arith) (omega arith)
-
--- what `rotate_right` answers for a word x of 32 bits, moved round so that its part below n comes first: as a sum
-moved : (x n k : ℕ) → x / n < 2 ^ k → x * 2 ^ k ≡ x / n * 2 ^ 32 + x % n * 2 ^ k → x % n * 2 ^ k < 2 ^ 32 → bitOr (x / n) (x * 2 ^ k % 2 ^ 32) ≡ x % n * 2 ^ k + x / n
-moved x n k h e l = ap (λ m. bitOr (x / n) m) (ap (λ m. m % 2 ^ 32) e ∙ mod-mul-add (x / n) (2 ^ 32) (x % n * 2 ^ k) l) ∙ or-shifted-r (x % n) k (x / n) h
 
 -- the last byte comes first
 abbrev pub around : List ℕ → List ℕ
 around w = getD w 3 0 ∷ getD w 0 0 ∷ getD w 1 0 ∷ getD w 2 0 ∷ []
-
--- the last n bytes of a word come first: its bytes, from the sum
-around-by : (x n k : ℕ) (a b c d : ℕ) → x / n < 2 ^ k → x * 2 ^ k ≡ x / n * 2 ^ 32 + x % n * 2 ^ k → x % n * 2 ^ k < 2 ^ 32
-    → x % n * 2 ^ k + x / n ≡ a * 16777216 + b * 65536 + c * 256 + d → a < 256 → b < 256 → c < 256 → d < 256
-    → quad (bitOr (x / n) (x * 2 ^ k % 2 ^ 32)) ≡ a ∷ b ∷ c ∷ d ∷ []
-around-by x n k a b c d h e l es ha hb hc hd = ap quad (moved x n k h e l ∙ es) ∙ quad-word a b c d ha hb hc hd
-
-module _ (x : ℕ) (h : x < 2 ^ 32) where
-  halves : x / 65536 ≡ x / 256 / 256
-  halves = sym (shr-shr x 8 8)
-
-  top : x / 16777216 ≡ x / 256 / 256 / 256
-  top = sym (ap (λ n. n / 256) (shr-shr x 8 8) ∙ shr-shr x 16 8)
-
-  low2 : x % 65536 ≡ x / 256 % 256 * 256 + x % 256
-  low2 = mod-pow-add x 8 8
-
-  low3 : x % 16777216 ≡ (x / 256 / 256 % 256 * 256 + x / 256 % 256) * 256 + x % 256
-  low3 = mod-pow-add x 16 8 ∙ ap (λ n. n * 256 + x % 256) (mod-pow-add (x / 256) 8 8)
-
-  pub quad-by-8 : quad (bitOr (x / 256) (x * 16777216 % 4294967296)) ≡ around (quad x)
-  quad-by-8 =
-      around-by x 256 24 _ _ _ _ (omega arith) (omega arith) (omega arith) (omega (arith, halves, top)) (omega arith) (omega arith) (omega arith) (omega arith)
-
-  pub quad-by-16 : quad (bitOr (x / 65536) (x * 65536 % 4294967296)) ≡ around (around (quad x))
-  quad-by-16 =
-      around-by x 65536 16 _ _ _ _ (omega arith) (omega arith) (omega arith) (omega (arith, halves, top, low2)) (omega arith) (omega arith) (omega arith) (omega arith)
-
-  pub quad-by-24 : quad (bitOr (x / 16777216) (x * 256 % 4294967296)) ≡ around (around (around (quad x)))
-  quad-by-24 =
-      around-by x 16777216 8 _ _ _ _ (omega arith) (omega arith) (omega arith) (omega (arith, halves, top, low3)) (omega arith) (omega arith) (omega arith) (omega arith)
 
 -- the same sum from the second term on
 from-second : (a b c d : ℕ) → bitXor (bitXor (bitXor a b) c) d ≡ bitXor (bitXor (bitXor b c) d) a
@@ -79,14 +42,25 @@ mixes p q r s =
     cons4 refl (from-second p (mul q 2) (mul r 3) s) (from-second p q (mul r 2) (mul s 3) ∙ from-second q (mul r 2) (mul s 3) p)
     (from-second (mul p 3) q r (mul s 2) ∙ from-second q r (mul s 2) (mul p 3) ∙ from-second r (mul s 2) (mul p 3) q)
 
+-- (a + k) + b + (c + d) is a + b + c + d + k
+regroup : (a b c d k : ℕ) → bitXor (bitXor (bitXor a k) b) (bitXor c d) ≡ bitXor (bitXor (bitXor (bitXor a b) c) d) k
+regroup a b c d k =
+    ap (λ n. bitXor n (bitXor c d)) (xor-assoc a k b ∙ ap (bitXor a) (xor-comm k b) ∙ sym (xor-assoc a b k))
+    ∙ xor-assoc (bitXor a b) k (bitXor c d)
+    ∙ ap (bitXor (bitXor a b)) (xor-comm k (bitXor c d))
+    ∙ sym (xor-assoc (bitXor a b) (bitXor c d) k)
+    ∙ ap (λ n. bitXor n k) (sym (xor-assoc (bitXor a b) c d))
+
+-- the four look-ups of a column
 pub column : (x y z w k : ℕ) (p q r s : ℕ)
     → quad x ≡ adds p
     → quad y ≡ around (adds q)
     → quad z ≡ around (around (adds r))
     → quad w ≡ around (around (around (adds s)))
-    → quad (bitXor (bitXor (bitXor (bitXor x y) z) w) k) ≡ xorWord (mixQuad p q r s) (quad k)
+    → quad (bitXor (bitXor (bitXor x k) y) (bitXor z w)) ≡ xorWord (mixQuad p q r s) (quad k)
 column x y z w k p q r s ex ey ez ew =
-    quad-xor (bitXor (bitXor (bitXor x y) z) w) k
+    ap quad (regroup x y z w k)
+    ∙ quad-xor (bitXor (bitXor (bitXor x y) z) w) k
     ∙ ap (λ l. xorWord l (quad k)) (quad-xor (bitXor (bitXor x y) z) w ∙ ap (λ l. xorWord l (quad w)) (quad-xor (bitXor x y) z ∙ ap (λ l. xorWord l (quad z)) (quad-xor x y)))
     ∙ cc (ex, ey, ez, ew, mixes p q r s)
 
@@ -117,7 +91,7 @@ turned w c b q s0 s1 s2 s3 eb e0 e1 e2 e3 eq =
     let sub : (i : ℕ) → sbox (getD b i 0) ≡ sbox (getD (quad w) i 0) = λ i. ap (λ l. sbox (getD l i 0)) eb in
     eq ∙ cons4 (ap (λ s. bitXor s c) (e0 ∙ sub 1)) (e1 ∙ sub 2 ∙ sym (xor-zero-r _)) (e2 ∙ sub 3 ∙ sym (xor-zero-r _)) (e3 ∙ sub 0 ∙ sym (xor-zero-r _))
 
-join4 : {a b c d e f g h : List ℕ} → a ≡ e → b ≡ f → c ≡ g → d ≡ h → a ++ (b ++ (c ++ d)) ≡ e ++ (f ++ (g ++ h))
+pub join4 : {a b c d e f g h : List ℕ} → a ≡ e → b ≡ f → c ≡ g → d ≡ h → a ++ (b ++ (c ++ d)) ≡ e ++ (f ++ (g ++ h))
 join4 p q r s = cc
 
 -- the four words of the next round key, from those of p, q, r and s and from the first one's partner t
@@ -132,3 +106,7 @@ schedule p q r s t u h =
     let e1 = next q _ _ e0 in
     let e2 = next r _ _ e1 in
     join4 e0 e1 e2 (next s _ _ e2)
+
+-- a word by its bytes, each of them known
+pub word-of : {q : List ℕ} {a b c d e f g h : ℕ} → q ≡ a ∷ b ∷ c ∷ d ∷ [] → a ≡ e → b ≡ f → c ≡ g → d ≡ h → q ≡ e ∷ f ∷ g ∷ h ∷ []
+word-of w p q r s = w ∙ cons4 p q r s

@@ -1,4 +1,4 @@
--- The cipher's machine words as bytes, the first byte highest. Assumes nothing.
+-- The cipher's machine words as bytes, the first byte lowest. Assumes nothing.
 --   entry      an entry of a table
 --   quad       the four bytes of a word
 --   bytesOf    the sixteen bytes of four words
@@ -11,7 +11,7 @@ unfoldable pub entry : List ℕ → ℕ → ℕ
 entry table k = getD table k 0
 
 abbrev pub quad : ℕ → List ℕ
-quad w = (w / 16777216 % 256) ∷ (w / 65536 % 256) ∷ (w / 256 % 256) ∷ (w % 256) ∷ []
+quad w = (w % 256) ∷ (w / 256 % 256) ∷ (w / 65536 % 256) ∷ (w / 16777216 % 256) ∷ []
 
 abbrev pub bytesOf : Columns → List ℕ
 bytesOf s = quad (s .a) ++ (quad (s .b) ++ (quad (s .c) ++ quad (s .d)))

@@ -2,10 +2,15 @@
 ghost use mathlib.Core.List.{[], _∷_};
 ghost use mathlib.Core.Path.{_≡_};
 ghost use Rattle.block_cipher.specs.Aes.{subBytes, shiftRows, mixColumns, addRoundKey, mixRow, subWord, rotWord, xorWord, rconWord, nextRoundKey};
+ghost use Prim.Native.Nat.{_/_, _%_};
+ghost use Rattle.block_cipher.specs.Counter.{bytes16};
 ghost use Rattle.block_cipher.specs.Field.{sbox};
 ghost use Rattle.block_cipher.specs.Words.{quad, bytesOf};
 use crate::columns::Columns;
-use crate::tables::mixed;
+use crate::tables::row0;
+use crate::tables::row1;
+use crate::tables::row2;
+use crate::tables::row3;
 use crate::tables::sub_byte;
 
 // A block's columns.
@@ -18,6 +23,46 @@ pub(crate) fn load(s: [u8; 16]) -> Columns
         c: word(s[8], s[9], s[10], s[11]),
         d: word(s[12], s[13], s[14], s[15]),
     }
+}
+
+// The columns of a number's sixteen bytes, the first byte highest.
+pub(crate) fn columns_of(n: u128) -> Columns
+    ensures { λ r. ⌜ bytesOf r ≡ bytes16 n ⌝ }
+{
+    Columns {
+        a: swapped(((n >> 96) & 0xffff_ffff) as u32),
+        b: swapped(((n >> 64) & 0xffff_ffff) as u32),
+        c: swapped(((n >> 32) & 0xffff_ffff) as u32),
+        d: swapped((n & 0xffff_ffff) as u32),
+    }
+}
+
+// The bytes of columns.
+pub(crate) fn store(s: Columns) -> [u8; 16]
+    ensures { λ r. ⌜ r ≡ bytesOf s ⌝ }
+{
+    let a = s.a.to_le_bytes();
+    let b = s.b.to_le_bytes();
+    let c = s.c.to_le_bytes();
+    let d = s.d.to_le_bytes();
+    [
+        a[0],
+        a[1],
+        a[2],
+        a[3],
+        b[0],
+        b[1],
+        b[2],
+        b[3],
+        c[0],
+        c[1],
+        c[2],
+        c[3],
+        d[0],
+        d[1],
+        d[2],
+        d[3],
+    ]
 }
 
 pub(crate) fn add_round_key(s: Columns, k: Columns) -> Columns
@@ -35,10 +80,10 @@ pub(crate) fn add_round_key(s: Columns, k: Columns) -> Columns
 pub(crate) fn round(s: Columns, k: Columns) -> Columns
     ensures { λ r. ⌜ bytesOf r ≡ addRoundKey (mixColumns (shiftRows (subBytes (bytesOf s)))) (bytesOf k) ⌝ }
 {
-    let a = s.a.to_be_bytes();
-    let b = s.b.to_be_bytes();
-    let c = s.c.to_be_bytes();
-    let d = s.d.to_be_bytes();
+    let a = s.a.to_le_bytes();
+    let b = s.b.to_le_bytes();
+    let c = s.c.to_le_bytes();
+    let d = s.d.to_le_bytes();
     Columns {
         a: column(a[0], b[1], c[2], d[3], k.a),
         b: column(b[0], c[1], d[2], a[3], k.b),
@@ -48,35 +93,19 @@ pub(crate) fn round(s: Columns, k: Columns) -> Columns
 }
 
 // The last round, which has no MixColumns.
-pub(crate) fn last_round(s: Columns, k: Columns) -> [u8; 16]
-    ensures { λ r. ⌜ r ≡ addRoundKey (shiftRows (subBytes (bytesOf s))) (bytesOf k) ⌝ }
+pub(crate) fn last_round(s: Columns, k: Columns) -> Columns
+    ensures { λ r. ⌜ bytesOf r ≡ addRoundKey (shiftRows (subBytes (bytesOf s))) (bytesOf k) ⌝ }
 {
-    let a = s.a.to_be_bytes();
-    let b = s.b.to_be_bytes();
-    let c = s.c.to_be_bytes();
-    let d = s.d.to_be_bytes();
-    let e = k.a.to_be_bytes();
-    let f = k.b.to_be_bytes();
-    let g = k.c.to_be_bytes();
-    let h = k.d.to_be_bytes();
-    [
-        sub_byte(a[0]) ^ e[0],
-        sub_byte(b[1]) ^ e[1],
-        sub_byte(c[2]) ^ e[2],
-        sub_byte(d[3]) ^ e[3],
-        sub_byte(b[0]) ^ f[0],
-        sub_byte(c[1]) ^ f[1],
-        sub_byte(d[2]) ^ f[2],
-        sub_byte(a[3]) ^ f[3],
-        sub_byte(c[0]) ^ g[0],
-        sub_byte(d[1]) ^ g[1],
-        sub_byte(a[2]) ^ g[2],
-        sub_byte(b[3]) ^ g[3],
-        sub_byte(d[0]) ^ h[0],
-        sub_byte(a[1]) ^ h[1],
-        sub_byte(b[2]) ^ h[2],
-        sub_byte(c[3]) ^ h[3],
-    ]
+    let a = s.a.to_le_bytes();
+    let b = s.b.to_le_bytes();
+    let c = s.c.to_le_bytes();
+    let d = s.d.to_le_bytes();
+    Columns {
+        a: last_column(a[0], b[1], c[2], d[3], k.a),
+        b: last_column(b[0], c[1], d[2], a[3], k.b),
+        c: last_column(c[0], d[1], a[2], b[3], k.c),
+        d: last_column(d[0], a[1], b[2], c[3], k.d),
+    }
 }
 
 // The round key after `k`, with its round constant.
@@ -90,23 +119,25 @@ pub(crate) fn next_round_key(k: Columns, rcon: u8) -> Columns
     Columns { a, b, c, d }
 }
 
-// One column after a round: p, q, r and s stand in its rows 0 to 3 after ShiftRows. A byte in row i adds the
-// column of row 0, moved i places down.
+// One column after a round: p, q, r and s stand in its rows 0 to 3 after ShiftRows.
 fn column(p: u8, q: u8, r: u8, s: u8, k: u32) -> u32
     ensures { λ n. ⌜ quad n ≡ xorWord (mixRow (sbox p) (sbox q) (sbox r) (sbox s) ∷ mixRow (sbox q) (sbox r) (sbox s) (sbox p) ∷ mixRow (sbox r) (sbox s) (sbox p) (sbox q) ∷ mixRow (sbox s) (sbox p) (sbox q) (sbox r) ∷ []) (quad k) ⌝ }
 {
-    let x = mixed(p);
-    let y = mixed(q).rotate_right(8);
-    let z = mixed(r).rotate_right(16);
-    let w = mixed(s).rotate_right(24);
-    x ^ y ^ z ^ w ^ k
+    ((row0(p) ^ k) ^ row1(q)) ^ (row2(r) ^ row3(s))
+}
+
+// One column after the last round.
+fn last_column(p: u8, q: u8, r: u8, s: u8, k: u32) -> u32
+    ensures { λ n. ⌜ quad n ≡ xorWord (sbox p ∷ sbox q ∷ sbox r ∷ sbox s ∷ []) (quad k) ⌝ }
+{
+    word(sub_byte(p), sub_byte(q), sub_byte(r), sub_byte(s)) ^ k
 }
 
 // RotWord, SubWord and the round constant.
 fn turned(w: u32, rcon: u8) -> u32
     ensures { λ r. ⌜ quad r ≡ xorWord (subWord (rotWord (quad w))) (rconWord rcon) ⌝ }
 {
-    let b = w.to_be_bytes();
+    let b = w.to_le_bytes();
     word(
         sub_byte(b[1]) ^ rcon,
         sub_byte(b[2]),
@@ -115,8 +146,16 @@ fn turned(w: u32, rcon: u8) -> u32
     )
 }
 
+// A word with its first byte highest, as one with its first byte lowest.
+fn swapped(w: u32) -> u32
+    ensures { λ r. ⌜ quad r ≡ (w / 16777216 % 256) ∷ (w / 65536 % 256) ∷ (w / 256 % 256) ∷ (w % 256) ∷ [] ⌝ }
+{
+    let b = w.to_be_bytes();
+    word(b[0], b[1], b[2], b[3])
+}
+
 fn word(a: u8, b: u8, c: u8, d: u8) -> u32
     ensures { λ r. ⌜ quad r ≡ a ∷ b ∷ c ∷ d ∷ [] ⌝ }
 {
-    u32::from_be_bytes([a, b, c, d])
+    u32::from_le_bytes([a, b, c, d])
 }

@@ -3,12 +3,16 @@ ghost use mathlib.Core.Path.{_≡_};
 ghost use Rattle.block_cipher.specs.Aes.{cipher};
 ghost use Rattle.block_cipher.specs.Counter.{counterBlock};
 ghost use Rattle.block_cipher.specs.Keyed.{keyOf};
+ghost use Rattle.block_cipher.specs.Words.{bytesOf};
 use crate::aes::Aes128;
+use crate::columns::Columns;
 use crate::rounds::add_round_key;
+use crate::rounds::columns_of;
 use crate::rounds::last_round;
 use crate::rounds::load;
 use crate::rounds::next_round_key;
 use crate::rounds::round;
+use crate::rounds::store;
 
 // The constants of the ten rounds.
 const RCON: [u8; 10] = [0x01, 0x02, 0x04, 0x08, 0x10, 0x20, 0x40, 0x80, 0x1b, 0x36];
@@ -48,7 +52,14 @@ impl Aes128 {
     pub fn encrypt(&self, block: [u8; 16]) -> [u8; 16]
         ensures { λ r. ⌜ r ≡ cipher (keyOf (now (self .entry))) block ⌝ }
     {
-        let s0 = add_round_key(load(block), self.key);
+        store(self.encrypt_columns(load(block)))
+    }
+
+    // The same on columns, for those who make blocks of words or go on with what is encrypted.
+    pub(crate) fn encrypt_columns(&self, block: Columns) -> Columns
+        ensures { λ r. ⌜ bytesOf r ≡ cipher (keyOf (now (self .entry))) (bytesOf block) ⌝ }
+    {
+        let s0 = add_round_key(block, self.key);
         let s1 = round(s0, self.round1);
         let s2 = round(s1, self.round2);
         let s3 = round(s2, self.round3);
@@ -66,6 +77,6 @@ impl Aes128 {
         ensures { λ r. ⌜ r ≡ counterBlock (keyOf (now (self .entry))) iv i ⌝ }
     {
         let counter = u128::from_be_bytes(iv).wrapping_add(i);
-        self.encrypt(counter.to_be_bytes())
+        store(self.encrypt_columns(columns_of(counter)))
     }
 }

@@ -1,14 +1,18 @@
 // Making the subkeys of a key, and tags with them.
-ghost use mathlib.Core.List.{_++_};
 ghost use mathlib.Core.Path.{_≡_};
 ghost use Prim.Native.Nat.{_<_, _≤_};
 ghost use lib.ListN.{length};
-ghost use Rattle.block_cipher.specs.Aes.{xorBlock};
 ghost use Rattle.block_cipher.specs.Cmac.{doubled, padded, lastBlock, cmac};
 ghost use Rattle.block_cipher.specs.Counter.{number, bytes16};
 ghost use Rattle.block_cipher.specs.MacKey.{macKeyOf};
+ghost use Rattle.block_cipher.specs.Words.{bytesOf};
 use crate::aes::Aes128;
 use crate::cmac::Cmac;
+use crate::columns::Columns;
+use crate::rounds::add_round_key as xor;
+use crate::rounds::columns_of;
+use crate::rounds::load;
+use crate::rounds::store;
 
 impl Cmac {
     // The subkeys of a key.
@@ -17,7 +21,7 @@ impl Cmac {
     {
         let cipher = Aes128::new(key);
         let k1 = double(cipher.encrypt([0; 16]));
-        let k2 = double(k1);
+        let k2 = double(store(k1));
         Cmac { cipher, k1, k2 }
     }
 
@@ -26,25 +30,25 @@ impl Cmac {
         ensures { λ r. ⌜ r ≡ cmac (macKeyOf (now (self .entry))) (now (message .entry)) ⌝ }
     {
         let before = message.len().saturating_sub(1) / 16;
-        let mut chain = [0u8; 16];
+        let mut chain = load([0; 16]);
         for i in 0..before {
-            let block = block_of(&message[16 * i..16 * i + 16]);
-            let next = self.cipher.encrypt(xor(chain, block));
+            let block = load(block_of(&message[16 * i..16 * i + 16]));
+            let next = self.cipher.encrypt_columns(xor(chain, block));
             chain = next;
         }
         let last = self.last_block(&message[16 * before..]);
-        self.cipher.encrypt(xor(chain, last))
+        store(self.cipher.encrypt_columns(xor(chain, last)))
     }
 
     // The last block, complete or padded, with its subkey.
-    fn last_block(&self, rest: &[u8]) -> [u8; 16]
+    fn last_block(&self, rest: &[u8]) -> Columns
         requires { ⌜ length (now rest) ≤ 16 ⌝ }
-        ensures { λ r. ⌜ r ≡ lastBlock (macKeyOf (now (self .entry))) (now (rest .entry)) ⌝ }
+        ensures { λ r. ⌜ bytesOf r ≡ lastBlock (macKeyOf (now (self .entry))) (now (rest .entry)) ⌝ }
     {
         if rest.len() == 16 {
-            return xor(self.k1, block_of(rest));
+            return xor(self.k1, load(block_of(rest)));
         }
-        xor(self.k2, pad(rest))
+        xor(self.k2, load(pad(rest)))
     }
 }
 
@@ -69,32 +73,9 @@ fn pad(rest: &[u8]) -> [u8; 16]
     block
 }
 
-fn xor(a: [u8; 16], b: [u8; 16]) -> [u8; 16]
-    ensures { λ r. ⌜ r ≡ xorBlock a b ⌝ }
-{
-    [
-        a[0] ^ b[0],
-        a[1] ^ b[1],
-        a[2] ^ b[2],
-        a[3] ^ b[3],
-        a[4] ^ b[4],
-        a[5] ^ b[5],
-        a[6] ^ b[6],
-        a[7] ^ b[7],
-        a[8] ^ b[8],
-        a[9] ^ b[9],
-        a[10] ^ b[10],
-        a[11] ^ b[11],
-        a[12] ^ b[12],
-        a[13] ^ b[13],
-        a[14] ^ b[14],
-        a[15] ^ b[15],
-    ]
-}
-
 // Twice a block, in the field that the subkeys are made in.
-fn double(x: [u8; 16]) -> [u8; 16]
-    ensures { λ r. ⌜ r ≡ bytes16 (doubled (number x)) ⌝ }
+fn double(x: [u8; 16]) -> Columns
+    ensures { λ r. ⌜ bytesOf r ≡ bytes16 (doubled (number x)) ⌝ }
 {
     let n = u128::from_be_bytes(x);
     let shifted = n << 1;
@@ -103,5 +84,5 @@ fn double(x: [u8; 16]) -> [u8; 16]
     } else {
         shifted ^ 0x87
     };
-    reduced.to_be_bytes()
+    columns_of(reduced)
 }
