@@ -2,5 +2,5 @@ pub mod Entries
 pub mod Fields
 pub mod Quads
 pub mod Schedule
-pub mod Numbers
+pub mod Digits
 pub mod Macs

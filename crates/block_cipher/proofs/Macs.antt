@@ -12,7 +12,7 @@ use Rattle.std.proofs.shelf.Tests.{cond-true, cond-false, lt-ltb, le-ltb, eq-eq
 use Rattle.block_cipher.specs.Aes.{xorBlock, cipher}
 use Rattle.block_cipher.specs.Counter.{number, bytes16}
 use Rattle.block_cipher.specs.Cmac.{zeros, shiftLeft, doubled, subkey1, subkey2, padded, lastBlock, chained, before, cmac}
-use Rattle.block_cipher.proofs.Numbers.{sum16, sum-number}
+use Rattle.block_cipher.proofs.Digits.{sum16, sum-number}
 
 pub doubled-low : (n r : ℕ) → n / 2 ^ 127 ≡ 0 → r ≡ n * 2 % 2 ^ 128 → r ≡ doubled n
 doubled-low n r h e = e ∙ sym (cond-true (ltb n (2 ^ 127)) (shiftLeft n) (bitXor (shiftLeft n) 0x87) (lt-ltb n (2 ^ 127) (omega arith)))

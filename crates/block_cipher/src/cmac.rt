@@ -2,9 +2,7 @@
 ghost use mathlib.Core.Path.{_≡_};
 ghost use Rattle.block_cipher.specs.Cmac.{subkey1, subkey2};
 ghost use Rattle.block_cipher.specs.Keyed.{keyOf};
-ghost use Rattle.block_cipher.specs.Words.{bytesOf};
 use crate::aes::Aes128;
-use crate::columns::Columns;
 
 mod methods;
 
@@ -13,8 +11,8 @@ mod methods;
 #[repr(C)]
 pub struct Cmac {
     cipher: Aes128,
-    k1: Columns,
-    k2: Columns,
-    ghost first: { bytesOf k1 ≡ subkey1 (keyOf cipher) },
-    ghost second: { bytesOf k2 ≡ subkey2 (keyOf cipher) },
+    k1: [u8; 16],
+    k2: [u8; 16],
+    ghost first: { k1 ≡ subkey1 (keyOf cipher) },
+    ghost second: { k2 ≡ subkey2 (keyOf cipher) },
 }

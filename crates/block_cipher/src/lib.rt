@@ -3,6 +3,7 @@ pub mod aes;
 pub mod cmac;
 pub mod columns;
 pub mod ffi;
+mod numbers;
 mod rounds;
 mod tables;
 

@@ -2,68 +2,15 @@
 ghost use mathlib.Core.List.{[], _∷_};
 ghost use mathlib.Core.Path.{_≡_};
 ghost use Rattle.block_cipher.specs.Aes.{subBytes, shiftRows, mixColumns, addRoundKey, mixRow, subWord, rotWord, xorWord, rconWord, nextRoundKey};
-ghost use Prim.Native.Nat.{_/_, _%_};
-ghost use Rattle.block_cipher.specs.Counter.{bytes16};
 ghost use Rattle.block_cipher.specs.Field.{sbox};
 ghost use Rattle.block_cipher.specs.Words.{quad, bytesOf};
 use crate::columns::Columns;
+use crate::numbers::word;
 use crate::tables::row0;
 use crate::tables::row1;
 use crate::tables::row2;
 use crate::tables::row3;
 use crate::tables::sub_byte;
-
-// A block's columns.
-pub(crate) fn load(s: [u8; 16]) -> Columns
-    ensures { λ r. ⌜ bytesOf r ≡ s ⌝ }
-{
-    Columns {
-        a: word(s[0], s[1], s[2], s[3]),
-        b: word(s[4], s[5], s[6], s[7]),
-        c: word(s[8], s[9], s[10], s[11]),
-        d: word(s[12], s[13], s[14], s[15]),
-    }
-}
-
-// The columns of a number's sixteen bytes, the first byte highest.
-pub(crate) fn columns_of(n: u128) -> Columns
-    ensures { λ r. ⌜ bytesOf r ≡ bytes16 n ⌝ }
-{
-    Columns {
-        a: swapped(((n >> 96) & 0xffff_ffff) as u32),
-        b: swapped(((n >> 64) & 0xffff_ffff) as u32),
-        c: swapped(((n >> 32) & 0xffff_ffff) as u32),
-        d: swapped((n & 0xffff_ffff) as u32),
-    }
-}
-
-// The bytes of columns.
-pub(crate) fn store(s: Columns) -> [u8; 16]
-    ensures { λ r. ⌜ r ≡ bytesOf s ⌝ }
-{
-    let a = s.a.to_le_bytes();
-    let b = s.b.to_le_bytes();
-    let c = s.c.to_le_bytes();
-    let d = s.d.to_le_bytes();
-    [
-        a[0],
-        a[1],
-        a[2],
-        a[3],
-        b[0],
-        b[1],
-        b[2],
-        b[3],
-        c[0],
-        c[1],
-        c[2],
-        c[3],
-        d[0],
-        d[1],
-        d[2],
-        d[3],
-    ]
-}
 
 pub(crate) fn add_round_key(s: Columns, k: Columns) -> Columns
     ensures { λ r. ⌜ bytesOf r ≡ addRoundKey (bytesOf s) (bytesOf k) ⌝ }
@@ -144,18 +91,4 @@ fn turned(w: u32, rcon: u8) -> u32
         sub_byte(b[3]),
         sub_byte(b[0]),
     )
-}
-
-// A word with its first byte highest, as one with its first byte lowest.
-fn swapped(w: u32) -> u32
-    ensures { λ r. ⌜ quad r ≡ (w / 16777216 % 256) ∷ (w / 65536 % 256) ∷ (w / 256 % 256) ∷ (w % 256) ∷ [] ⌝ }
-{
-    let b = w.to_be_bytes();
-    word(b[0], b[1], b[2], b[3])
-}
-
-fn word(a: u8, b: u8, c: u8, d: u8) -> u32
-    ensures { λ r. ⌜ quad r ≡ a ∷ b ∷ c ∷ d ∷ [] ⌝ }
-{
-    u32::from_le_bytes([a, b, c, d])
 }

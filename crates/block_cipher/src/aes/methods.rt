@@ -3,16 +3,17 @@ ghost use mathlib.Core.Path.{_≡_};
 ghost use Rattle.block_cipher.specs.Aes.{cipher};
 ghost use Rattle.block_cipher.specs.Counter.{counterBlock};
 ghost use Rattle.block_cipher.specs.Keyed.{keyOf};
-ghost use Rattle.block_cipher.specs.Words.{bytesOf};
+ghost use Rattle.block_cipher.specs.Words.{little16};
 use crate::aes::Aes128;
-use crate::columns::Columns;
+use crate::numbers::join;
+use crate::numbers::load;
+use crate::numbers::split;
+use crate::numbers::store;
+use crate::numbers::swapped;
 use crate::rounds::add_round_key;
-use crate::rounds::columns_of;
 use crate::rounds::last_round;
-use crate::rounds::load;
 use crate::rounds::next_round_key;
 use crate::rounds::round;
-use crate::rounds::store;
 
 // The constants of the ten rounds.
 const RCON: [u8; 10] = [0x01, 0x02, 0x04, 0x08, 0x10, 0x20, 0x40, 0x80, 0x1b, 0x36];
@@ -22,7 +23,7 @@ impl Aes128 {
     pub fn new(key: [u8; 16]) -> Aes128
         ensures { λ r. ⌜ keyOf r ≡ key ⌝ }
     {
-        let k0 = load(key);
+        let k0 = split(load(key));
         let k1 = next_round_key(k0, RCON[0]);
         let k2 = next_round_key(k1, RCON[1]);
         let k3 = next_round_key(k2, RCON[2]);
@@ -52,14 +53,14 @@ impl Aes128 {
     pub fn encrypt(&self, block: [u8; 16]) -> [u8; 16]
         ensures { λ r. ⌜ r ≡ cipher (keyOf (now (self .entry))) block ⌝ }
     {
-        store(self.encrypt_columns(load(block)))
+        store(self.encrypt_number(load(block)))
     }
 
-    // The same on columns, for those who make blocks of words or go on with what is encrypted.
-    pub(crate) fn encrypt_columns(&self, block: Columns) -> Columns
-        ensures { λ r. ⌜ bytesOf r ≡ cipher (keyOf (now (self .entry))) (bytesOf block) ⌝ }
+    // The same on blocks as numbers, for those who make blocks of them or go on with what is encrypted.
+    pub(crate) fn encrypt_number(&self, block: u128) -> u128
+        ensures { λ r. ⌜ little16 r ≡ cipher (keyOf (now (self .entry))) (little16 block) ⌝ }
     {
-        let s0 = add_round_key(block, self.key);
+        let s0 = add_round_key(split(block), self.key);
         let s1 = round(s0, self.round1);
         let s2 = round(s1, self.round2);
         let s3 = round(s2, self.round3);
@@ -69,7 +70,7 @@ impl Aes128 {
         let s7 = round(s6, self.round7);
         let s8 = round(s7, self.round8);
         let s9 = round(s8, self.round9);
-        last_round(s9, self.round10)
+        join(last_round(s9, self.round10))
     }
 
     // The encryption of `iv` + i, modulo 2^128, the first byte highest: block i of counter mode.
@@ -77,6 +78,6 @@ impl Aes128 {
         ensures { λ r. ⌜ r ≡ counterBlock (keyOf (now (self .entry))) iv i ⌝ }
     {
         let counter = u128::from_be_bytes(iv).wrapping_add(i);
-        store(self.encrypt_columns(columns_of(counter)))
+        store(self.encrypt_number(swapped(counter)))
     }
 }

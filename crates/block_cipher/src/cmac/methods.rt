@@ -5,14 +5,12 @@ ghost use lib.ListN.{length};
 ghost use Rattle.block_cipher.specs.Cmac.{doubled, padded, lastBlock, cmac};
 ghost use Rattle.block_cipher.specs.Counter.{number, bytes16};
 ghost use Rattle.block_cipher.specs.MacKey.{macKeyOf};
-ghost use Rattle.block_cipher.specs.Words.{bytesOf};
+ghost use Rattle.block_cipher.specs.Words.{little16};
 use crate::aes::Aes128;
 use crate::cmac::Cmac;
-use crate::columns::Columns;
-use crate::rounds::add_round_key as xor;
-use crate::rounds::columns_of;
-use crate::rounds::load;
-use crate::rounds::store;
+use crate::numbers::load;
+use crate::numbers::store;
+use crate::numbers::swapped;
 
 impl Cmac {
     // The subkeys of a key.
@@ -21,7 +19,7 @@ impl Cmac {
     {
         let cipher = Aes128::new(key);
         let k1 = double(cipher.encrypt([0; 16]));
-        let k2 = double(store(k1));
+        let k2 = double(k1);
         Cmac { cipher, k1, k2 }
     }
 
@@ -30,25 +28,25 @@ impl Cmac {
         ensures { λ r. ⌜ r ≡ cmac (macKeyOf (now (self .entry))) (now (message .entry)) ⌝ }
     {
         let before = message.len().saturating_sub(1) / 16;
-        let mut chain = load([0; 16]);
+        let mut chain = 0u128;
         for i in 0..before {
             let block = load(block_of(&message[16 * i..16 * i + 16]));
-            let next = self.cipher.encrypt_columns(xor(chain, block));
+            let next = self.cipher.encrypt_number(chain ^ block);
             chain = next;
         }
         let last = self.last_block(&message[16 * before..]);
-        store(self.cipher.encrypt_columns(xor(chain, last)))
+        store(self.cipher.encrypt_number(chain ^ last))
     }
 
     // The last block, complete or padded, with its subkey.
-    fn last_block(&self, rest: &[u8]) -> Columns
+    fn last_block(&self, rest: &[u8]) -> u128
         requires { ⌜ length (now rest) ≤ 16 ⌝ }
-        ensures { λ r. ⌜ bytesOf r ≡ lastBlock (macKeyOf (now (self .entry))) (now (rest .entry)) ⌝ }
+        ensures { λ r. ⌜ little16 r ≡ lastBlock (macKeyOf (now (self .entry))) (now (rest .entry)) ⌝ }
     {
         if rest.len() == 16 {
-            return xor(self.k1, load(block_of(rest)));
+            return load(self.k1) ^ load(block_of(rest));
         }
-        xor(self.k2, load(pad(rest)))
+        load(self.k2) ^ load(pad(rest))
     }
 }
 
@@ -74,8 +72,8 @@ fn pad(rest: &[u8]) -> [u8; 16]
 }
 
 // Twice a block, in the field that the subkeys are made in.
-fn double(x: [u8; 16]) -> Columns
-    ensures { λ r. ⌜ bytesOf r ≡ bytes16 (doubled (number x)) ⌝ }
+fn double(x: [u8; 16]) -> [u8; 16]
+    ensures { λ r. ⌜ r ≡ bytes16 (doubled (number x)) ⌝ }
 {
     let n = u128::from_be_bytes(x);
     let shifted = n << 1;
@@ -84,5 +82,5 @@ fn double(x: [u8; 16]) -> Columns
     } else {
         shifted ^ 0x87
     };
-    columns_of(reduced)
+    store(swapped(reduced))
 }

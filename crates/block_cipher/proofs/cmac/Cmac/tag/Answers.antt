@@ -5,7 +5,8 @@ use lib.ListN.{length, take, drop}
 use Rattle.std.proofs.shelf.Parts.{between-to-end}
 use Rattle.block_cipher.specs.Cmac.{chained}
 use Rattle.block_cipher.specs.MacKey.{macKeyOf}
-use Rattle.block_cipher.specs.Words.{bytesOf}
+use Rattle.block_cipher.specs.Words.{little16}
+use Rattle.block_cipher.proofs.Digits.{little-xor}
 use Rattle.block_cipher.proofs.Macs.{chain-more, chain-end}
 use Rattle.block_cipher.proofs.cmac.Cmac.tag.Needs as need
 
@@ -15,7 +16,7 @@ loop-i-holds c =
     let m = c .args .message .now in
     let n = c .saturating-sub-before .result / 16 in
     let none : n - 0 ≡ n = omega arith in
-    ap (λ k. chained key (bytesOf (c .load-chain .result)) k m) none ∙ ap (λ b. chained key b n m) (c .load-chain .ensures)
+    ap (λ k. chained key (little16 0) k m) none
 
 pub loop-i-again : need.loop-i-again
 unfolding macKeyOf
@@ -23,11 +24,11 @@ loop-i-again c =
     let m = c .args .message .now in
     let i = c .loop-i .i in
     let part : 16 * i + 16 - 16 * i ≡ 16 = omega arith in
-    chain-more _ m _ _ _ _ (c .saturating-sub-before .result / 16) i (c .loop-i-test .taken) (c .load-block .ensures ∙ (c .block-of .ensures ∙ ap (λ k. take k (drop (16 * i) m)) part)) (c .add-round-key .ensures) (c .encrypt-columns-next .ensures) ∙ c .loop-i .inv
+    chain-more _ m _ _ _ _ (c .saturating-sub-before .result / 16) i (c .loop-i-test .taken) (c .load-block .ensures ∙ (c .block-of .ensures ∙ ap (λ k. take k (drop (16 * i) m)) part)) (little-xor (c .loop-i .chain) (c .load-block .result)) (c .encrypt-number-next .ensures) ∙ c .loop-i .inv
 
 pub returns : need.returns
 unfolding macKeyOf
 returns c =
     let m = c .args .message .now in
     let n = c .saturating-sub-before .result / 16 in
-    chain-end _ m (bytesOf (c .loop-i .chain)) _ _ _ _ n (c .loop-i .i) (omega arith) (ap (λ k. k / 16) (c .saturating-sub-before .ensures)) (between-to-end m (16 * n) (length m) (omega arith)) (c .last-block-last .ensures) (c .add-round-key-2 .ensures) (c .store .ensures ∙ c .encrypt-columns .ensures) (c .loop-i .inv)
+    chain-end _ m (little16 (c .loop-i .chain)) _ _ _ _ n (c .loop-i .i) (omega arith) (ap (λ k. k / 16) (c .saturating-sub-before .ensures)) (between-to-end m (16 * n) (length m) (omega arith)) (c .last-block-last .ensures) (little-xor (c .loop-i .chain) (c .last-block-last .result)) (c .store .ensures ∙ c .encrypt-number .ensures) (c .loop-i .inv)

@@ -1,4 +1,4 @@
-use mathlib.Core.Path.{_≡_}
+use mathlib.Core.Path.{_≡_, _∙_}
 use native.Mathlib.Omega.{arith}
 use borrow.Author.Needs.{needs}
 use Rattle.block_cipher.specs.Cmac.{doubled}
@@ -14,4 +14,4 @@ returns c =
       | then-n-eq0 w ↦ doubled-low n _ (w .if-n-eq0 .taken) (w .reduced-is)
       | else-n-eq0 w ↦ doubled-high n _ (omega (arith, w .if-n-eq0 .left)) (w .reduced-is)
     ] in
-    doubles (c .args .x) _ n (c .if-n-eq0 .reduced) (search needs) (c .from-be-bytes-n .ensures) twice (c .columns-of .ensures)
+    doubles (c .args .x) _ n (c .if-n-eq0 .reduced) (search needs) (c .from-be-bytes-n .ensures) twice (c .store .ensures ∙ c .swapped .ensures)
