@@ -80,14 +80,22 @@ impl Fault {
     pub fn own(cause: Cause) -> Fault
         ensures { λ r. ⌜ r ≡ own cause ⌝ }
     {
-        Fault { cause, place: 0, depth: 0 }
+        Fault {
+            cause,
+            place: 0,
+            depth: 0,
+        }
     }
 
     // The same refusal at a place.
     pub fn at(self, place: usize) -> Fault
         ensures { λ r. ⌜ r ≡ placed self place ⌝ }
     {
-        Fault { cause: self.cause, place, depth: self.depth }
+        Fault {
+            cause: self.cause,
+            place,
+            depth: self.depth,
+        }
     }
 
     // The refusal as a caller passes it up: one deeper, and never deeper than 65,535.
@@ -95,6 +103,10 @@ impl Fault {
         ensures { λ r. ⌜ r ≡ deeper self ⌝ }
     {
         let depth = self.depth.saturating_add(1);
-        Fault { cause: self.cause, place: self.place, depth }
+        Fault {
+            cause: self.cause,
+            place: self.place,
+            depth,
+        }
     }
 }

@@ -1,2 +1,3 @@
 // What codes look like, and how a refusal is told: alphabets, shapes, run names, faults.
+pub mod alphabet;
 pub mod fault;
