@@ -1,2 +1,4 @@
 pub mod Faults
 pub mod Alphabets
+pub mod Codes
+pub mod RunNames

@@ -1,3 +1,5 @@
 // What codes look like, and how a refusal is told: alphabets, shapes, run names, faults.
 pub mod alphabet;
+pub mod code;
 pub mod fault;
+pub mod run_name;
