@@ -2,3 +2,4 @@ pub mod Faults
 pub mod Alphabets
 pub mod Codes
 pub mod RunNames
+pub mod LeastRounds

@@ -2,4 +2,5 @@
 pub mod alphabet;
 pub mod code;
 pub mod fault;
+pub mod least;
 pub mod run_name;
