@@ -3,3 +3,5 @@ pub mod Alphabets
 pub mod Codes
 pub mod RunNames
 pub mod LeastRounds
+pub mod Forms
+pub mod Shapes

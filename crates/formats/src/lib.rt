@@ -2,5 +2,6 @@
 pub mod alphabet;
 pub mod code;
 pub mod fault;
-pub mod least;
+pub mod rounds;
 pub mod run_name;
+pub mod shape;

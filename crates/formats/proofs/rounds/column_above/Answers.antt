@@ -1,7 +1,7 @@
 use borrow.Author.Needs.{needs}
 use native.Mathlib.Omega.{arith}
 use Rattle.formats.proofs.Columns.{above-by}
-use Rattle.formats.proofs.least.column_above.Needs as need
+use Rattle.formats.proofs.rounds.column_above.Needs as need
 
 pub returns-in-0-to-10 : need.returns-in-0-to-10
 returns-in-0-to-10 c = let e = above-by (c .args .len) (c .pre .1) in (grind arith, omega arith)

@@ -1,7 +1,7 @@
 use borrow.Author.Needs.{needs}
 use Rattle.formats.specs.LeastRounds.{tabled}
 use Rattle.formats.proofs.Columns.{tabled-by}
-use Rattle.formats.proofs.least.least_rounds.Needs as need
+use Rattle.formats.proofs.rounds.least_rounds.Needs as need
 
 pub returns-then-radix-lt4 : need.returns-then-radix-lt4
 unfolding tabled

@@ -1,7 +1,9 @@
-// The least number of rounds that a radix and a length ask for.
+// How many rounds a radix and a length ask for.
 ghost use mathlib.Core.Path.{_≡_};
 ghost use Prim.Native.Nat.{_≤_};
 ghost use Rattle.formats.specs.LeastRounds.{columnBelow, columnAbove, tabled};
+ghost use Rattle.formats.specs.Forms.{defaultRounds, leastOf};
+use crate::alphabet::Alphabet;
 
 // A row for each radix from 4 to 16; a column for each length from 2 to 10, and for 12, 16 and 32.
 const ROWS: [[u8; 12]; 13] = [
@@ -30,6 +32,20 @@ pub fn least_rounds(radix: u8, len: u8) -> Option<u8>
     }
     let row = (radix.min(16) - 4) as usize;
     Some(ROWS[row][column_below(len)].max(ROWS[row][column_above(len)]))
+}
+
+// The least number of rounds for an alphabet and a length, and 0 where the table has none, as at length 1.
+pub fn fewest_rounds(alphabet: Alphabet, len: u8) -> u16
+    ensures { λ r. ⌜ r ≡ leastOf alphabet len ⌝ }
+{
+    least_rounds(alphabet.radix(), len).unwrap_or(0) as u16
+}
+
+// The rounds of a shape for which none are named.
+pub fn default_rounds(alphabet: Alphabet, len: u8) -> u16
+    ensures { λ r. ⌜ r ≡ defaultRounds alphabet len ⌝ }
+{
+    fewest_rounds(alphabet, len)
 }
 
 // The last column whose length is not above `len`.

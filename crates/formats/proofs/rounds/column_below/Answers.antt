@@ -1,7 +1,7 @@
 use borrow.Author.Needs.{needs}
 use native.Mathlib.Omega.{arith}
 use Rattle.formats.proofs.Columns.{below-by}
-use Rattle.formats.proofs.least.column_below.Needs as need
+use Rattle.formats.proofs.rounds.column_below.Needs as need
 
 pub returns-in-0-to-11 : need.returns-in-0-to-11
 returns-in-0-to-11 c = let e = below-by (c .args .len) (c .pre .1) in (grind arith, search needs)
