@@ -2,3 +2,4 @@ pub mod Tables
 pub mod Symbols
 pub mod Loops
 pub mod Columns
+pub mod Readings

@@ -5,3 +5,4 @@ pub mod RunNames
 pub mod LeastRounds
 pub mod Forms
 pub mod Shapes
+pub mod ShapeTexts

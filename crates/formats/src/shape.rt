@@ -6,6 +6,7 @@ use crate::alphabet::AlphabetDebug;
 use crate::alphabet::AlphabetPartialEq;
 
 mod making;
+mod text;
 
 // An alphabet, a length and a number of rounds, within the limits: a length from 1 to 32, no rounds at length 1,
 // else no fewer than the least number and at most 2,048 layers.
