@@ -1,10 +1,32 @@
 // Codes and the texts that write them: checked, and turned into one another in place.
 ghost use mathlib.Core.Path.{_≡_};
 ghost use mathlib.Core.List.{map};
-ghost use Rattle.formats.specs.Codes.{strayByte, straySymbol, verdict, asSymbols, asBytes, symbolAt, byteAt};
+ghost use Rattle.formats.specs.Codes.{strayByte, straySymbol, verdict, asSymbols, asBytes, symbolAt, byteAt, codeVerdict, textVerdict};
+ghost use Rattle.formats.specs.Shapes.{form};
 use crate::alphabet::Alphabet;
 use crate::fault::Cause;
 use crate::fault::Fault;
+use crate::shape::Shape;
+
+// Is it a code of the shape: as long as the shape says, and each number a symbol?
+pub fn check(shape: &Shape, code: &[u8]) -> Result<(), Fault>
+    ensures { λ r. ⌜ r ≡ codeVerdict (form (now (shape .entry))) (now (code .entry)) ⌝ }
+{
+    if code.len() != shape.len() as usize {
+        return Err(Fault::own(Cause::CodeLength));
+    }
+    check_symbols(shape.alphabet(), code)
+}
+
+// Is it the text of a code of the shape?
+pub fn check_text(shape: &Shape, text: &[u8]) -> Result<(), Fault>
+    ensures { λ r. ⌜ r ≡ textVerdict (form (now (shape .entry))) (now (text .entry)) ⌝ }
+{
+    if text.len() != shape.len() as usize {
+        return Err(Fault::own(Cause::CodeLength));
+    }
+    check_bytes(shape.alphabet(), text)
+}
 
 // Turns each byte of a text into the symbol that it writes. A text with a byte that writes none is left as it is.
 pub fn to_symbols(alphabet: Alphabet, text: &mut [u8]) -> Result<(), Fault>
