@@ -3,3 +3,4 @@ pub mod Symbols
 pub mod Loops
 pub mod Columns
 pub mod Readings
+pub mod Texts

@@ -1,13 +1,21 @@
 -- The symbols and the bytes of each alphabet by spans. Assumes nothing.
-use mathlib.Core.Path.{_≡_, refl, ap, subst, sym, _∙_}
-use mathlib.Core.Bool.{Bool, true, false, cond}
-use Prim.Native.Nat.{ℕ, _<_}
+use mathlib.Core.Path.{_≡_, refl, ap, sym, _∙_}
+use mathlib.Core.Bool.{true, cond}
+use mathlib.Core.List.{List, [], _∷_}
+use mathlib.Core.Logic.{inl, inr}
+use Prim.Native.Nat.{ℕ, suc, _+_, _<_}
+use native.Mathlib.Nat.{zero-add, suc-add, add-suc}
+use native.Mathlib.Omega.{arith}
+use lib.Dec.{eqb, ltb}
+use lib.ListN.{length, getD}
+use Rattle.std.proofs.shelf.Tests.{cases-bool, cond-true, cond-false, eqb-true, ltb-true, lt-ltb, le-ltb, cases-lt}
 use Rattle.std.specs.Options.{orOther}
 use Rattle.std.specs.declared.option.Option.{Option}
 use Rattle.std.specs.declared.option.Option.the-variants.{None, Some}
 use Rattle.formats.specs.declared.alphabet.Alphabet.{Alphabet}
 use Rattle.formats.specs.declared.alphabet.Alphabet.the-variants.{Decimal, Hex, Upper, Alphanumeric}
-use Rattle.formats.specs.Alphabets.{symbolOf, byteOf, spanAt}
+use Rattle.formats.specs.Alphabets.{bytesOf, radixOf, letterOf, alphabetOf, placeFrom, symbolOf, byteOf, spanAt}
+use Rattle.formats.specs.AlphabetLaws.{OneToOne}
 use Rattle.formats.proofs.Tables.{allBelow, at-below, alike, alike-equal}
 
 abbrev symbolBy : Alphabet → ℕ → Option ℕ
@@ -39,3 +47,93 @@ byte-by-spans Decimal x h = equal (byteBy Decimal) (byteOf Decimal) refl x h
 byte-by-spans Hex x h = equal (byteBy Hex) (byteOf Hex) refl x h
 byte-by-spans Upper x h = equal (byteBy Upper) (byteOf Upper) refl x h
 byte-by-spans Alphanumeric x h = equal (byteBy Alphanumeric) (byteOf Alphanumeric) refl x h
+
+none-some : {X : Type 0} (x : X) → _≡_ {A = Option X} None (Some x) → _≡_ {A = ℕ} 0 1
+none-some x e = cc
+
+same-some : {X : Type 0} (x y : X) → _≡_ {A = Option X} (Some x) (Some y) → x ≡ y
+same-some x y e = cc
+
+-- what is found stands there
+place-at : (b : ℕ) (xs : List ℕ) (i x : ℕ) → placeFrom i b xs ≡ Some x → (k : ℕ) × (x ≡ i + k) × (k < length xs) × (getD xs k 0 ≡ b)
+place-at b [] i x e = let z = none-some x e in let never : ⊥ = omega arith in absurd never
+place-at b (y ∷ ys) i x e =
+    elim (cases-bool (eqb b y)) [
+      | inl yep ↦
+          let here = same-some i x (sym (cond-true (eqb b y) (Some i) (placeFrom (suc i) b ys) yep) ∙ e) in
+          (0, omega arith, omega arith, sym (eqb-true b y yep))
+      | inr nope ↦
+          let later = place-at b ys (suc i) x (sym (cond-false (eqb b y) (Some i) (placeFrom (suc i) b ys) nope) ∙ e) in
+          (suc (later .0), later .1 ∙ suc-add i (later .0) ∙ sym (add-suc i (later .0)), omega arith, later .3)
+    ]
+
+pub as-many : (a : Alphabet) → length (bytesOf a) ≡ radixOf a
+as-many Decimal = refl
+as-many Hex = refl
+as-many Upper = refl
+as-many Alphanumeric = refl
+
+pub symbol-below : (a : Alphabet) (b x : ℕ) → symbolOf a b ≡ Some x → x < radixOf a
+unfolding symbolOf
+symbol-below a b x e = let p = place-at b (bytesOf a) 0 x e in let n = as-many a in omega arith
+
+byte-there : (a : Alphabet) (x : ℕ) → x < radixOf a → byteOf a x ≡ Some (getD (bytesOf a) x 0)
+unfolding byteOf
+byte-there a x h = cond-true (ltb x (radixOf a)) (Some (getD (bytesOf a) x 0)) None (lt-ltb x (radixOf a) h)
+
+pub written-for : (a : Alphabet) (b x : ℕ) → symbolOf a b ≡ Some x → byteOf a x ≡ Some b
+unfolding symbolOf
+written-for a b x e =
+    let p = place-at b (bytesOf a) 0 x e in
+    let here : x ≡ p .0 = p .1 ∙ zero-add (p .0) in
+    byte-there a x (symbol-below a b x e) ∙ ap (λ n. Some (getD (bytesOf a) n 0)) here ∙ ap Some (p .3)
+
+symbol-there : (a : Alphabet) (x : ℕ) → x < radixOf a → symbolOf a (getD (bytesOf a) x 0) ≡ Some x
+unfolding symbolOf
+symbol-there Decimal x h = alike-equal _ _ (at-below (λ n. alike (symbolOf Decimal (getD (bytesOf Decimal) n 0)) (Some n)) 10 refl x h)
+symbol-there Hex x h = alike-equal _ _ (at-below (λ n. alike (symbolOf Hex (getD (bytesOf Hex) n 0)) (Some n)) 16 refl x h)
+symbol-there Upper x h = alike-equal _ _ (at-below (λ n. alike (symbolOf Upper (getD (bytesOf Upper) n 0)) (Some n)) 26 refl x h)
+symbol-there Alphanumeric x h = alike-equal _ _ (at-below (λ n. alike (symbolOf Alphanumeric (getD (bytesOf Alphanumeric) n 0)) (Some n)) 36 refl x h)
+
+pub read-for : (a : Alphabet) (b x : ℕ) → byteOf a x ≡ Some b → symbolOf a b ≡ Some x
+unfolding byteOf
+read-for a b x e =
+    elim (cases-lt x (radixOf a)) [
+      | inl less ↦
+          let here = same-some (getD (bytesOf a) x 0) b (sym (byte-there a x less) ∙ e) in
+          ap (symbolOf a) (sym here) ∙ symbol-there a x less
+      | inr more ↦
+          let z = none-some b (sym (cond-false (ltb x (radixOf a)) (Some (getD (bytesOf a) x 0)) None (le-ltb x (radixOf a) more)) ∙ e) in
+          let never : ⊥ = omega arith in absurd never
+    ]
+
+pub own-letter : (a : Alphabet) → alphabetOf (letterOf a) ≡ Some a
+own-letter Decimal = refl
+own-letter Hex = refl
+own-letter Upper = refl
+own-letter Alphanumeric = refl
+
+-- a letter is the first alphabet's, or one of the rest
+first-or : (letter : ℕ) (a x : Alphabet) (rest : Option Alphabet) → (rest ≡ Some a → letter ≡ letterOf a) → cond (eqb letter (letterOf x)) (Some x) rest ≡ Some a → letter ≡ letterOf a
+first-or letter a x rest more e =
+    elim (cases-bool (eqb letter (letterOf x))) [
+      | inl yep ↦ eqb-true letter (letterOf x) yep ∙ ap letterOf (same-some x a (sym (cond-true (eqb letter (letterOf x)) (Some x) rest yep) ∙ e))
+      | inr nope ↦ more (sym (cond-false (eqb letter (letterOf x)) (Some x) rest nope) ∙ e)
+    ]
+
+pub only-letter : (a : Alphabet) (letter : ℕ) → alphabetOf letter ≡ Some a → letter ≡ letterOf a
+only-letter a letter e =
+    let never : _≡_ {A = Option Alphabet} None (Some a) → letter ≡ letterOf a = λ h. let z = none-some a h in let false-here : ⊥ = omega arith in absurd false-here in
+    first-or letter a Decimal _ (first-or letter a Hex _ (first-or letter a Upper _ (first-or letter a Alphanumeric None never))) e
+
+pub one-to-one : (a : Alphabet) → OneToOne a
+one-to-one a =
+    record {
+      named = own-letter a;
+      alone = only-letter a;
+      counted = as-many a;
+      below = symbol-below a;
+      each = λ x h. (getD (bytesOf a) x 0, byte-there a x h);
+      written = written-for a;
+      read = read-for a;
+    }

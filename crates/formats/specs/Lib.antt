@@ -6,3 +6,4 @@ pub mod LeastRounds
 pub mod Forms
 pub mod Shapes
 pub mod ShapeTexts
+pub mod AlphabetLaws

@@ -2,6 +2,7 @@
 pub mod alphabet;
 pub mod code;
 pub mod fault;
+pub mod laws;
 pub mod rounds;
 pub mod run_name;
 pub mod shape;
