@@ -7,3 +7,4 @@ pub mod Forms
 pub mod Shapes
 pub mod ShapeTexts
 pub mod AlphabetLaws
+pub mod ShapeLaws

@@ -76,15 +76,16 @@ abbrev pub digit : ℕ → ℕ
 digit n = 48 + n
 
 -- the letter and the length
-abbrev pub stem : Form → List ℕ
-stem f = letterOf (f .alphabet) ∷ digit (f .len / 10) ∷ digit (f .len % 10) ∷ []
+abbrev pub stem : Alphabet → ℕ → List ℕ
+stem a n = letterOf a ∷ digit (n / 10) ∷ digit (n % 10) ∷ []
 
 -- the slash and the rounds
-abbrev pub tail : Form → List ℕ
-tail f = 47 ∷ digit (f .rounds / 100) ∷ digit (f .rounds / 10 % 10) ∷ digit (f .rounds % 10) ∷ []
+abbrev pub tail : ℕ → List ℕ
+tail r = 47 ∷ digit (r / 100) ∷ digit (r / 10 % 10) ∷ digit (r % 10) ∷ []
 
 abbrev pub textOf : Form → Option (List ℕ)
-textOf f = cond (eqb (f .len) 1) (Some (stem f)) (cond (ltb (f .rounds) 1000) (Some (stem f ++ tail f)) None)
+textOf f =
+    cond (eqb (f .len) 1) (Some (stem (f .alphabet) (f .len))) (cond (ltb (f .rounds) 1000) (Some (stem (f .alphabet) (f .len) ++ tail (f .rounds))) None)
 
 -- a text in seven bytes, with zeros after it, and its length
 abbrev pub inSeven : Option (List ℕ) → Option (List ℕ × ℕ)

@@ -1,0 +1,128 @@
+-- The limits of a shape and the tests of them. Assumes nothing.
+use mathlib.Core.Path.{_≡_, refl, sym, ap, subst, _∙_}
+use mathlib.Core.Bool.{Bool, true, false, cond, _&&_}
+use mathlib.Core.Logic.{inl, inr}
+use Prim.Native.Nat.{ℕ, _*_, _≤_}
+use native.Mathlib.Nat.{zero-mul, le-refl}
+use native.Mathlib.Omega.{arith}
+use lib.Dec.{eqb, leb}
+use Rattle.std.specs.declared.result.Result.{Result}
+use Rattle.std.specs.declared.result.Result.the-variants.{Ok, Err}
+use Rattle.std.proofs.shelf.Tests.{cases-bool, cases-eq, cond-true, cond-false, cond-both, and-parts, and-from, eqb-false, eq-eqb, ne-eqb, leb-true, le-leb}
+use Rattle.formats.specs.declared.alphabet.Alphabet.{Alphabet}
+use Rattle.formats.specs.declared.alphabet.Alphabet.the-variants.{Decimal, Hex, Upper, Alphanumeric}
+use Rattle.formats.specs.declared.fault.Cause.the-variants.{Length, Rounds}
+use Rattle.formats.specs.declared.fault.Fault.{Fault}
+use Rattle.formats.specs.declared.shape.Shape.{Shape}
+use Rattle.formats.specs.Alphabets.{radixOf}
+use Rattle.formats.specs.Faults.{own}
+use Rattle.formats.specs.Forms.{Form, Exists, formOf, leastOf, defaultRounds, layersOf, mostLayers, lengthFits, roundsFit, remade}
+use Rattle.formats.specs.LeastRounds.{least, tabled, columnBelow, columnAbove}
+use Rattle.formats.specs.ShapeLaws.{Bounded, DefaultsExist, Tabled}
+use Rattle.formats.specs.Shapes.{form}
+use Rattle.formats.proofs.Tables.{allBelow, at-below}
+
+pub err-ok : {X Y : Type 0} (y : Y) (x : X) → _≡_ {A = Result X Y} (Err y) (Ok x) → _≡_ {A = ℕ} 0 1
+err-ok y x e = cc
+
+same-ok : {X Y : Type 0} (x z : X) → _≡_ {A = Result X Y} (Ok x) (Ok z) → x ≡ z
+same-ok x z e = cc
+
+-- the two limits of the layers are one
+layers-within : (n r : ℕ) → r * n ≤ mostLayers n → r * n ≤ 2048
+layers-within n r h =
+    elim (cases-bool (eqb n 1)) [
+      | inl yep ↦ let e : mostLayers n ≡ 0 = cond-true (eqb n 1) 0 2048 yep in omega arith
+      | inr nope ↦ let e : mostLayers n ≡ 2048 = cond-false (eqb n 1) 0 2048 nope in omega arith
+    ]
+
+no-rounds : (n r : ℕ) → r * n ≤ mostLayers n → n ≡ 1 → r ≡ 0
+no-rounds n r h e = let k : r * 1 ≤ 0 = subst (λ (m : ℕ). r * m ≤ mostLayers m) e h in omega arith
+
+layers-fit : (n r : ℕ) → (n ≡ 1 → r ≡ 0) → r * n ≤ 2048 → r * n ≤ mostLayers n
+layers-fit n r alone h =
+    elim (cases-eq n 1) [
+      | inl yep ↦
+          let z = alone yep in
+          let e : r * n ≡ 0 = ap (λ m. m * n) z ∙ zero-mul n in omega arith
+      | inr nope ↦ let e : mostLayers n ≡ 2048 = cond-false (eqb n 1) 0 2048 (ne-eqb n 1 nope) in omega arith
+    ]
+
+pub form-exists : (s : Shape) → Exists (form s)
+form-exists s =
+    record {
+      some = s .some;
+      short = s .short;
+      alone = no-rounds (s .len) (s .rounds) (s .few);
+      enough = s .enough;
+      few = layers-within (s .len) (s .rounds) (s .few);
+    }
+
+module _ (f : Form) where
+  fits-length : Exists f → lengthFits (f .len) ≡ true
+  fits-length x = and-from _ _ (le-leb 1 (f .len) (x .some)) (le-leb (f .len) 32 (x .short))
+
+  fits-rounds : Exists f → roundsFit f ≡ true
+  fits-rounds x =
+      and-from _ _ (le-leb (leastOf (f .alphabet) (f .len)) (f .rounds) (x .enough)) (le-leb (layersOf f) (mostLayers (f .len)) (layers-fit (f .len) (f .rounds) (x .alone) (x .few)))
+
+  by-tests : lengthFits (f .len) ≡ true → roundsFit f ≡ true → Exists f
+  by-tests l r =
+      let lp = and-parts (leb 1 (f .len)) (leb (f .len) 32) l in
+      let rp = and-parts (leb (leastOf (f .alphabet) (f .len)) (f .rounds)) (leb (layersOf f) (mostLayers (f .len))) r in
+      let layers = leb-true (layersOf f) (mostLayers (f .len)) (rp .1) in
+      record {
+        some = leb-true 1 (f .len) (lp .0);
+        short = leb-true (f .len) 32 (lp .1);
+        alone = no-rounds (f .len) (f .rounds) layers;
+        enough = leb-true _ _ (rp .0);
+        few = layers-within (f .len) (f .rounds) layers;
+      }
+
+  abbrev inner : Result Form Fault
+  inner = cond (roundsFit f) (Ok f) (Err (own Rounds))
+
+  pub bounded : Bounded f
+  bounded =
+      record {
+        within = λ x. cond-true (lengthFits (f .len)) inner (Err (own Length)) (fits-length x) ∙ cond-true (roundsFit f) (Ok f) (Err (own Rounds)) (fits-rounds x);
+        without = λ g e.
+            elim (cases-bool (lengthFits (f .len))) [
+              | inl l ↦
+                  let e2 : inner ≡ Ok g = sym (cond-true (lengthFits (f .len)) inner (Err (own Length)) l) ∙ e in
+                  elim (cases-bool (roundsFit f)) [
+                    | inl r ↦ (same-ok f g (sym (cond-true (roundsFit f) (Ok f) (Err (own Rounds)) r) ∙ e2), by-tests l r)
+                    | inr r ↦ let z = err-ok (own Rounds) g (sym (cond-false (roundsFit f) (Ok f) (Err (own Rounds)) r) ∙ e2) in let never : ⊥ = omega arith in absurd never
+                  ]
+              | inr l ↦ let z = err-ok (own Length) g (sym (cond-false (lengthFits (f .len)) inner (Err (own Length)) l) ∙ e) in let never : ⊥ = omega arith in absurd never
+            ];
+      }
+
+-- the default rounds of each alphabet and length make few enough layers
+few-layers : (a : Alphabet) (n : ℕ) → n ≤ 32 → defaultRounds a n * n ≤ 2048
+unfolding least tabled columnBelow columnAbove
+few-layers Decimal n h = leb-true _ _ (at-below (λ k. leb (defaultRounds Decimal k * k) 2048) 33 refl n (omega arith))
+few-layers Hex n h = leb-true _ _ (at-below (λ k. leb (defaultRounds Hex k * k) 2048) 33 refl n (omega arith))
+few-layers Upper n h = leb-true _ _ (at-below (λ k. leb (defaultRounds Upper k * k) 2048) 33 refl n (omega arith))
+few-layers Alphanumeric n h = leb-true _ _ (at-below (λ k. leb (defaultRounds Alphanumeric k * k) 2048) 33 refl n (omega arith))
+
+pub none-at-one : (a : Alphabet) → defaultRounds a 1 ≡ 0
+unfolding least tabled
+none-at-one Decimal = refl
+none-at-one Hex = refl
+none-at-one Upper = refl
+none-at-one Alphanumeric = refl
+
+pub defaults-exist : DefaultsExist
+defaults-exist a n some short =
+    record {
+      some = some;
+      short = short;
+      alone = λ e. ap (defaultRounds a) e ∙ none-at-one a;
+      enough = le-refl (defaultRounds a n);
+      few = few-layers a n short;
+    }
+
+pub tabled-as-published : Tabled
+unfolding least tabled columnBelow columnAbove
+tabled-as-published = record { seven-digits = refl; ten-digits = refl; eleven-digits = refl; ten-signs = refl }
