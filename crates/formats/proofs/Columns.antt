@@ -2,7 +2,7 @@
 use mathlib.Core.Path.{_≡_, refl, sym, ap, _∙_}
 use mathlib.Core.Bool.{true, cond, _&&_}
 use mathlib.Core.List.{[]}
-use Prim.Native.Nat.{ℕ, suc, _-_, _<_, _≤_, min, max}
+use Prim.Native.Nat.{ℕ, _-_, _≤_, min, max}
 use lib.Dec.{leb, eqb}
 use lib.ListN.{getD}
 use native.Mathlib.Omega.{arith}

@@ -1,3 +1,4 @@
+pub mod Variants
 pub mod Tables
 pub mod Symbols
 pub mod Loops

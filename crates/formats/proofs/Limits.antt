@@ -1,6 +1,6 @@
 -- The limits of a shape and the tests of them. Assumes nothing.
 use mathlib.Core.Path.{_≡_, refl, sym, ap, subst, _∙_}
-use mathlib.Core.Bool.{Bool, true, false, cond, _&&_}
+use mathlib.Core.Bool.{true, cond}
 use mathlib.Core.Logic.{inl, inr}
 use Prim.Native.Nat.{ℕ, _*_, _≤_}
 use native.Mathlib.Nat.{zero-mul, le-refl}
@@ -8,25 +8,19 @@ use native.Mathlib.Omega.{arith}
 use lib.Dec.{eqb, leb}
 use Rattle.std.specs.declared.result.Result.{Result}
 use Rattle.std.specs.declared.result.Result.the-variants.{Ok, Err}
-use Rattle.std.proofs.shelf.Tests.{cases-bool, cases-eq, cond-true, cond-false, cond-both, and-parts, and-from, eqb-false, eq-eqb, ne-eqb, leb-true, le-leb}
+use Rattle.std.proofs.shelf.Tests.{cases-bool, cases-eq, cond-true, cond-false, and-parts, and-from, ne-eqb, leb-true, le-leb}
 use Rattle.formats.specs.declared.alphabet.Alphabet.{Alphabet}
 use Rattle.formats.specs.declared.alphabet.Alphabet.the-variants.{Decimal, Hex, Upper, Alphanumeric}
 use Rattle.formats.specs.declared.fault.Cause.the-variants.{Length, Rounds}
 use Rattle.formats.specs.declared.fault.Fault.{Fault}
 use Rattle.formats.specs.declared.shape.Shape.{Shape}
-use Rattle.formats.specs.Alphabets.{radixOf}
 use Rattle.formats.specs.Faults.{own}
-use Rattle.formats.specs.Forms.{Form, Exists, formOf, leastOf, defaultRounds, layersOf, mostLayers, lengthFits, roundsFit, remade}
+use Rattle.formats.specs.Forms.{Form, Exists, leastOf, defaultRounds, layersOf, mostLayers, lengthFits, roundsFit}
 use Rattle.formats.specs.LeastRounds.{least, tabled, columnBelow, columnAbove}
 use Rattle.formats.specs.ShapeLaws.{Bounded, DefaultsExist, Tabled}
 use Rattle.formats.specs.Shapes.{form}
-use Rattle.formats.proofs.Tables.{allBelow, at-below}
-
-pub err-ok : {X Y : Type 0} (y : Y) (x : X) → _≡_ {A = Result X Y} (Err y) (Ok x) → _≡_ {A = ℕ} 0 1
-err-ok y x e = cc
-
-same-ok : {X Y : Type 0} (x z : X) → _≡_ {A = Result X Y} (Ok x) (Ok z) → x ≡ z
-same-ok x z e = cc
+use Rattle.formats.proofs.Tables.{at-below}
+use Rattle.formats.proofs.Variants.{err≢ok, same-ok}
 
 -- the two limits of the layers are one
 layers-within : (n r : ℕ) → r * n ≤ mostLayers n → r * n ≤ 2048
@@ -92,9 +86,9 @@ module _ (f : Form) where
                   let e2 : inner ≡ Ok g = sym (cond-true (lengthFits (f .len)) inner (Err (own Length)) l) ∙ e in
                   elim (cases-bool (roundsFit f)) [
                     | inl r ↦ (same-ok f g (sym (cond-true (roundsFit f) (Ok f) (Err (own Rounds)) r) ∙ e2), by-tests l r)
-                    | inr r ↦ let z = err-ok (own Rounds) g (sym (cond-false (roundsFit f) (Ok f) (Err (own Rounds)) r) ∙ e2) in let never : ⊥ = omega arith in absurd never
+                    | inr r ↦ absurd (err≢ok (own Rounds) g (sym (cond-false (roundsFit f) (Ok f) (Err (own Rounds)) r) ∙ e2))
                   ]
-              | inr l ↦ let z = err-ok (own Length) g (sym (cond-false (lengthFits (f .len)) inner (Err (own Length)) l) ∙ e) in let never : ⊥ = omega arith in absurd never
+              | inr l ↦ absurd (err≢ok (own Length) g (sym (cond-false (lengthFits (f .len)) inner (Err (own Length)) l) ∙ e))
             ];
       }
 

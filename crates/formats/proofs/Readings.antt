@@ -1,8 +1,8 @@
 -- Reading the text of a shape, part by part. Assumes nothing.
 use mathlib.Core.Path.{_≡_, refl, sym, ap, subst, _∙_}
-use mathlib.Core.Bool.{true, cond, _&&_}
+use mathlib.Core.Bool.{cond, _&&_}
 use mathlib.Core.List.{List, [], _∷_, _++_}
-use mathlib.Core.Logic.{_⊎_, inl, inr}
+use mathlib.Core.Logic.{inl, inr}
 use Prim.Native.Nat.{ℕ, _+_, _-_, _*_, _/_, _%_, _<_, _≤_}
 use native.Mathlib.Omega.{arith}
 use lib.Dec.{eqb, leb, ltb}
@@ -10,19 +10,18 @@ use lib.ListN.{length, getD, take, drop}
 use lib.Seq.{take-all}
 use Rattle.std.specs.declared.option.Option.{Option}
 use Rattle.std.specs.declared.option.Option.the-variants.{None, Some}
-use Rattle.std.specs.declared.result.Result.{Result}
 use Rattle.std.specs.declared.result.Result.the-variants.{Ok, Err}
 use Rattle.std.proofs.shelf.Tests.{cases-bool, cond-true, cond-false, and-parts, and-from, eqb-true, eqb-false, ne-eqb, leb-true, le-leb, ltb-true}
 use Rattle.formats.specs.declared.alphabet.Alphabet.{Alphabet}
 use Rattle.formats.specs.declared.fault.Cause.the-variants.{ShapeText, Rounds}
-use Rattle.formats.specs.declared.fault.Fault.{Fault}
 use Rattle.formats.specs.Alphabets.{letterOf, alphabetOf}
 use Rattle.formats.specs.Faults.{own}
 use Rattle.formats.specs.Forms.{Form, Exists, formOf, defaultRounds, remade, made}
 use Rattle.formats.specs.ShapeLaws.{Spelled, Spells, ReadsExactly}
 use Rattle.formats.specs.ShapeTexts.{Parts, gathered, partsOf, digit, digitOf, followed, twoDigits, threeDigits, named, namedRounds, stem, tail, answered, readForm, textOf}
-use Rattle.formats.proofs.Limits.{bounded, err-ok, none-at-one}
+use Rattle.formats.proofs.Limits.{bounded, none-at-one}
 use Rattle.formats.proofs.Symbols.{own-letter, only-letter}
+use Rattle.formats.proofs.Variants.{none≢some, err≢ok, same-some}
 
 gathered-by : {letter : Option Alphabet} {two : Option ℕ} {rest : Option (Option ℕ)} (a : Alphabet) (n : ℕ) (r : Option ℕ) → Some a ≡ letter → Some n ≡ two → Some r ≡ rest → _≡_ {A = Option Parts} (Some (a, n, r)) (gathered letter two rest)
 gathered-by {letter} {two} {rest} a n r e h k =
@@ -35,12 +34,6 @@ parts-by (x ∷ y ∷ []) a n r h i j k = let none : ⊥ = omega arith in absurd
 parts-by (x ∷ y ∷ z ∷ rest) a n r h i j k =
     gathered-by a n r i j (k ∙ ap namedRounds (take-all (length (x ∷ y ∷ z ∷ rest) - 3) rest (omega arith)))
 
-none-some : {X : Type 0} (x : X) → _≡_ {A = Option X} None (Some x) → _≡_ {A = ℕ} 0 1
-none-some x e = cc
-
-same-some : {X : Type 0} (x y : X) → _≡_ {A = Option X} (Some x) (Some y) → x ≡ y
-same-some x y e = cc
-
 -- a digit
 digit-is : (b d : ℕ) → digitOf b ≡ Some d → (b ≡ digit d) × (d < 10)
 digit-is b d e =
@@ -52,7 +45,7 @@ digit-is b d e =
           let high = leb-true b 57 (parts .1) in
           let same : b - 48 ≡ d = same-some (b - 48) d (sym (cond-true test (Some (b - 48)) None yep) ∙ e) in
           (omega arith, omega arith)
-      | inr nope ↦ let z = none-some d (sym (cond-false test (Some (b - 48)) None nope) ∙ e) in let never : ⊥ = omega arith in absurd never
+      | inr nope ↦ absurd (none≢some d (sym (cond-false test (Some (b - 48)) None nope) ∙ e))
     ]
 
 digit-read : (d : ℕ) → d < 10 → digitOf (digit d) ≡ Some d
@@ -61,8 +54,8 @@ digit-read d h =
     cond-true (leb 48 (digit d) && leb (digit d) 57) (Some (digit d - 48)) None (and-from _ _ (le-leb 48 (digit d) (omega arith)) (le-leb (digit d) 57 (omega arith))) ∙ ap Some back
 
 followed-is : (o p : Option ℕ) (n : ℕ) → followed o p ≡ Some n → (x : ℕ) × (y : ℕ) × (o ≡ Some x) × (p ≡ Some y) × (n ≡ 10 * x + y)
-followed-is None p n e = let z = none-some n e in let never : ⊥ = omega arith in absurd never
-followed-is (Some x) None n e = let z = none-some n e in let never : ⊥ = omega arith in absurd never
+followed-is None p n e = absurd (none≢some n e)
+followed-is (Some x) None n e = absurd (none≢some n e)
 followed-is (Some x) (Some y) n e = (x, y, refl, refl, sym (same-some (10 * x + y) n e))
 
 followed-read : {o p : Option ℕ} (x y : ℕ) → o ≡ Some x → p ≡ Some y → followed o p ≡ Some (10 * x + y)
@@ -105,12 +98,12 @@ After rest None = rest ≡ []
 After rest (Some r) = (rest ≡ tail r) × (r < 1000)
 
 named-is : (o p : Option ℕ) → named o ≡ Some p → (x : ℕ) × (o ≡ Some x) × (p ≡ Some x)
-named-is None p e = let z = none-some p e in let never : ⊥ = omega arith in absurd never
+named-is None p e = absurd (none≢some p e)
 named-is (Some x) p e = (x, refl, sym (same-some (Some x) p e))
 
 nothing-after : (o : Option ℕ) → _≡_ {A = Option (Option ℕ)} (Some None) (Some o) → After [] o
 nothing-after None e = refl
-nothing-after (Some r) e = let z = none-some r (same-some None (Some r) e) in let never : ⊥ = omega arith in absurd never
+nothing-after (Some r) e = absurd (none≢some r (same-some None (Some r) e))
 
 four-after : (s a b c : ℕ) (o : Option ℕ) → namedRounds (s ∷ a ∷ b ∷ c ∷ []) ≡ Some o → After (s ∷ a ∷ b ∷ c ∷ []) o
 four-after s a b c o e =
@@ -124,21 +117,21 @@ four-after s a b c o e =
           let three = t .2 in
           let all : s ∷ a ∷ b ∷ c ∷ [] ≡ tail (w .0) = cc in
           subst (λ (p : Option ℕ). After (s ∷ a ∷ b ∷ c ∷ []) p) (sym (w .2)) (all, t .3)
-      | inr nope ↦ let z = none-some o (sym (cond-false (eqb s 47) (named (threeDigits a b c)) None nope) ∙ e) in let never : ⊥ = omega arith in absurd never
+      | inr nope ↦ absurd (none≢some o (sym (cond-false (eqb s 47) (named (threeDigits a b c)) None nope) ∙ e))
     ]
 
 after-is : (rest : List ℕ) (o : Option ℕ) → namedRounds rest ≡ Some o → After rest o
 after-is [] o e = nothing-after o e
-after-is (s ∷ []) o e = let z = none-some o e in let never : ⊥ = omega arith in absurd never
-after-is (s ∷ a ∷ []) o e = let z = none-some o e in let never : ⊥ = omega arith in absurd never
-after-is (s ∷ a ∷ b ∷ []) o e = let z = none-some o e in let never : ⊥ = omega arith in absurd never
+after-is (s ∷ []) o e = absurd (none≢some o e)
+after-is (s ∷ a ∷ []) o e = absurd (none≢some o e)
+after-is (s ∷ a ∷ b ∷ []) o e = absurd (none≢some o e)
 after-is (s ∷ a ∷ b ∷ c ∷ []) o e = four-after s a b c o e
-after-is (s ∷ a ∷ b ∷ c ∷ d ∷ more) o e = let z = none-some o e in let never : ⊥ = omega arith in absurd never
+after-is (s ∷ a ∷ b ∷ c ∷ d ∷ more) o e = absurd (none≢some o e)
 
 gathered-is : (letter : Option Alphabet) (two : Option ℕ) (rest : Option (Option ℕ)) (p : Parts) → gathered letter two rest ≡ Some p → (letter ≡ Some (p .0)) × (two ≡ Some (p .1)) × (rest ≡ Some (p .2))
-gathered-is None two rest p e = let z = none-some p e in let never : ⊥ = omega arith in absurd never
-gathered-is (Some a) None rest p e = let z = none-some p e in let never : ⊥ = omega arith in absurd never
-gathered-is (Some a) (Some n) None p e = let z = none-some p e in let never : ⊥ = omega arith in absurd never
+gathered-is None two rest p e = absurd (none≢some p e)
+gathered-is (Some a) None rest p e = absurd (none≢some p e)
+gathered-is (Some a) (Some n) None p e = absurd (none≢some p e)
 gathered-is (Some a) (Some n) (Some r) p e =
     let same : _≡_ {A = Parts} (a, n, r) p = same-some (a, n, r) p e in
     (ap (λ q. Some (q .0)) same, ap (λ q. Some (q .1)) same, ap (λ q. Some (q .2)) same)
@@ -151,9 +144,9 @@ spelled-by x y z rest a n (Some r) i j k h e =
 
 -- a text with parts is made of them
 parts-spelled : (text : List ℕ) (p : Parts) → partsOf text ≡ Some p → Spelled text (p .0) (p .1) (p .2)
-parts-spelled [] p e = let z = none-some p e in let never : ⊥ = omega arith in absurd never
-parts-spelled (x ∷ []) p e = let z = none-some p e in let never : ⊥ = omega arith in absurd never
-parts-spelled (x ∷ y ∷ []) p e = let z = none-some p e in let never : ⊥ = omega arith in absurd never
+parts-spelled [] p e = absurd (none≢some p e)
+parts-spelled (x ∷ []) p e = absurd (none≢some p e)
+parts-spelled (x ∷ y ∷ []) p e = absurd (none≢some p e)
 parts-spelled (x ∷ y ∷ z ∷ rest) p e =
     let g = gathered-is (alphabetOf x) (twoDigits y z) (namedRounds rest) p e in
     let two = two-is y z (p .1) (g .1) in
@@ -172,7 +165,7 @@ module _ (text : List ℕ) where
       subst (λ (g : Form). Spells text g × Exists g) (w .0) (inl (s, refl), w .1)
   made-spelled a n (Some r) f s e =
       elim (cases-bool (eqb n 1)) [
-        | inl yep ↦ let z = err-ok (own Rounds) f (sym (cond-true (eqb n 1) (Err (own Rounds)) (remade (formOf a n r)) yep) ∙ e) in let never : ⊥ = omega arith in absurd never
+        | inl yep ↦ absurd (err≢ok (own Rounds) f (sym (cond-true (eqb n 1) (Err (own Rounds)) (remade (formOf a n r)) yep) ∙ e))
         | inr nope ↦
             let w = bounded (formOf a n r) .without f (sym (cond-false (eqb n 1) (Err (own Rounds)) (remade (formOf a n r)) nope) ∙ e) in
             let apart = eqb-false n 1 nope in
@@ -182,7 +175,7 @@ module _ (text : List ℕ) where
       ]
 
   accepted-from : (o : Option Parts) (f : Form) → partsOf text ≡ o → answered o ≡ Ok f → Spells text f × Exists f
-  accepted-from None f e h = let z = err-ok (own ShapeText) f h in let never : ⊥ = omega arith in absurd never
+  accepted-from None f e h = absurd (err≢ok (own ShapeText) f h)
   accepted-from (Some p) f e h = made-spelled (p .0) (p .1) (p .2) f (parts-spelled text p e) h
 
   unread-from : (o : Option Parts) → partsOf text ≡ o → ((a : Alphabet) (n : ℕ) (r : Option ℕ) → Spelled text a n r → ⊥) → answered o ≡ Err (own ShapeText)
@@ -227,7 +220,7 @@ module _ (text : List ℕ) where
               | inl less ↦
                   let is = same-some (stem a n ++ tail r) text (sym (cond-true (ltb r 1000) (Some (stem a n ++ tail r)) None less) ∙ e2) in
                   long-read f x (sym is, small, ltb-true r 1000 less) (eqb-false n 1 nope)
-              | inr more ↦ let z = none-some text (sym (cond-false (ltb r 1000) (Some (stem a n ++ tail r)) None more) ∙ e2) in let never : ⊥ = omega arith in absurd never
+              | inr more ↦ absurd (none≢some text (sym (cond-false (ltb r 1000) (Some (stem a n ++ tail r)) None more) ∙ e2))
             ]
       ]
 

@@ -8,7 +8,7 @@ use native.Mathlib.Nat.{zero-add, suc-add, add-suc}
 use native.Mathlib.Omega.{arith}
 use lib.Dec.{eqb, ltb}
 use lib.ListN.{length, getD}
-use Rattle.std.proofs.shelf.Tests.{cases-bool, cond-true, cond-false, eqb-true, ltb-true, lt-ltb, le-ltb, cases-lt}
+use Rattle.std.proofs.shelf.Tests.{cases-bool, cond-true, cond-false, eqb-true, lt-ltb, le-ltb, cases-lt}
 use Rattle.std.specs.Options.{orOther}
 use Rattle.std.specs.declared.option.Option.{Option}
 use Rattle.std.specs.declared.option.Option.the-variants.{None, Some}
@@ -17,6 +17,7 @@ use Rattle.formats.specs.declared.alphabet.Alphabet.the-variants.{Decimal, Hex
 use Rattle.formats.specs.Alphabets.{bytesOf, radixOf, letterOf, alphabetOf, placeFrom, symbolOf, byteOf, spanAt}
 use Rattle.formats.specs.AlphabetLaws.{OneToOne}
 use Rattle.formats.proofs.Tables.{allBelow, at-below, alike, alike-equal}
+use Rattle.formats.proofs.Variants.{none≢some, same-some}
 
 abbrev symbolBy : Alphabet → ℕ → Option ℕ
 symbolBy Decimal b = spanAt b 48 57 0
@@ -48,15 +49,9 @@ byte-by-spans Hex x h = equal (byteBy Hex) (byteOf Hex) refl x h
 byte-by-spans Upper x h = equal (byteBy Upper) (byteOf Upper) refl x h
 byte-by-spans Alphanumeric x h = equal (byteBy Alphanumeric) (byteOf Alphanumeric) refl x h
 
-none-some : {X : Type 0} (x : X) → _≡_ {A = Option X} None (Some x) → _≡_ {A = ℕ} 0 1
-none-some x e = cc
-
-same-some : {X : Type 0} (x y : X) → _≡_ {A = Option X} (Some x) (Some y) → x ≡ y
-same-some x y e = cc
-
 -- what is found stands there
 place-at : (b : ℕ) (xs : List ℕ) (i x : ℕ) → placeFrom i b xs ≡ Some x → (k : ℕ) × (x ≡ i + k) × (k < length xs) × (getD xs k 0 ≡ b)
-place-at b [] i x e = let z = none-some x e in let never : ⊥ = omega arith in absurd never
+place-at b [] i x e = absurd (none≢some x e)
 place-at b (y ∷ ys) i x e =
     elim (cases-bool (eqb b y)) [
       | inl yep ↦
@@ -103,8 +98,7 @@ read-for a b x e =
           let here = same-some (getD (bytesOf a) x 0) b (sym (byte-there a x less) ∙ e) in
           ap (symbolOf a) (sym here) ∙ symbol-there a x less
       | inr more ↦
-          let z = none-some b (sym (cond-false (ltb x (radixOf a)) (Some (getD (bytesOf a) x 0)) None (le-ltb x (radixOf a) more)) ∙ e) in
-          let never : ⊥ = omega arith in absurd never
+          absurd (none≢some b (sym (cond-false (ltb x (radixOf a)) (Some (getD (bytesOf a) x 0)) None (le-ltb x (radixOf a) more)) ∙ e))
     ]
 
 pub own-letter : (a : Alphabet) → alphabetOf (letterOf a) ≡ Some a
@@ -123,7 +117,7 @@ first-or letter a x rest more e =
 
 pub only-letter : (a : Alphabet) (letter : ℕ) → alphabetOf letter ≡ Some a → letter ≡ letterOf a
 only-letter a letter e =
-    let never : _≡_ {A = Option Alphabet} None (Some a) → letter ≡ letterOf a = λ h. let z = none-some a h in let false-here : ⊥ = omega arith in absurd false-here in
+    let never : _≡_ {A = Option Alphabet} None (Some a) → letter ≡ letterOf a = λ h. absurd (none≢some a h) in
     first-or letter a Decimal _ (first-or letter a Hex _ (first-or letter a Upper _ (first-or letter a Alphanumeric None never))) e
 
 pub one-to-one : (a : Alphabet) → OneToOne a

@@ -1,39 +1,31 @@
 -- Texts and codes go one to one, and the checks tell them. Assumes nothing.
 use mathlib.Core.Path.{_≡_, refl, sym, ap, _∙_}
-use mathlib.Core.Bool.{Bool, true, false, cond}
+use mathlib.Core.Bool.{Bool, true}
 use mathlib.Core.List.{List, [], _∷_, map}
 use mathlib.Core.Logic.{inl, inr}
 use Prim.Native.Nat.{ℕ, suc, _<_}
-use native.Mathlib.Omega.{arith}
-use lib.Dec.{eqb, ltb}
+use lib.Dec.{eqb}
 use lib.ListN.{length}
 use Rattle.std.specs.Options.{isSome, valueOr}
 use Rattle.std.specs.shelf.Lists.{All}
 use Rattle.std.specs.declared.option.Option.{Option}
 use Rattle.std.specs.declared.option.Option.the-variants.{None, Some}
-use Rattle.std.specs.declared.result.Result.{Result}
 use Rattle.std.specs.declared.result.Result.the-variants.{Ok, Err}
 use Rattle.std.proofs.shelf.Elements.{all-map, all-weaker}
 use Rattle.std.proofs.shelf.Lists.{length-map}
 use Rattle.std.proofs.shelf.Tests.{cases-bool, cond-true, cond-false, eq-eqb, eqb-true, lt-ltb, ltb-true, false≢true}
 use Rattle.formats.specs.declared.alphabet.Alphabet.{Alphabet}
 use Rattle.formats.specs.declared.fault.Cause.the-variants.{CodeLength, NotASymbol}
-use Rattle.formats.specs.declared.fault.Fault.{Fault}
 use Rattle.formats.specs.Alphabets.{radixOf, symbolOf, byteOf}
 use Rattle.formats.specs.AlphabetLaws.{BackAndForth}
-use Rattle.formats.specs.Codes.{Code, Text, firstNot, writes, isSymbol, symbolAt, byteAt, verdict, unlessStray, fits, asSymbols, asBytes, codeVerdict, textVerdict}
+use Rattle.formats.specs.Codes.{Code, firstNot, writes, isSymbol, symbolAt, byteAt, verdict, unlessStray, fits}
 use Rattle.formats.specs.Faults.{own, placed}
 use Rattle.formats.specs.Forms.{Form}
 use Rattle.formats.proofs.Symbols.{one-to-one}
+use Rattle.formats.proofs.Variants.{some≢none, err≢ok}
 
 abbrev Passes : (ℕ → Bool) → List ℕ → Type 0
 Passes p xs = All (λ x. p x ≡ true) xs
-
-err-ok : {X : Type 0} (fault : X) → _≡_ {A = Result Unit X} (Err fault) (Ok tt) → _≡_ {A = ℕ} 0 1
-err-ok fault e = cc
-
-some-none : (n : ℕ) → _≡_ {A = Option ℕ} (Some n) None → _≡_ {A = ℕ} 0 1
-some-none n e = cc
 
 -- nothing is stray where the test passes at each entry
 pub none-stray : (p : ℕ → Bool) (i : ℕ) (xs : List ℕ) → Passes p xs → firstNot p i xs ≡ None
@@ -46,8 +38,7 @@ all-pass p i (x ∷ xs) e =
     elim (cases-bool (p x)) [
       | inl yep ↦ (yep, all-pass p (suc i) xs (sym (cond-true (p x) (firstNot p (suc i) xs) (Some i) yep) ∙ e))
       | inr nope ↦
-          let z = some-none i (sym (cond-false (p x) (firstNot p (suc i) xs) (Some i) nope) ∙ e) in
-          let never : ⊥ = omega arith in absurd never
+          absurd (some≢none i (sym (cond-false (p x) (firstNot p (suc i) xs) (Some i) nope) ∙ e))
     ]
 
 -- what changes each entry, and is refused where an entry does not pass
@@ -99,7 +90,7 @@ module _ (a : Alphabet) where
 -- a verdict that passes
 passed : (o : Option ℕ) → verdict o ≡ Ok tt → o ≡ None
 passed None e = refl
-passed (Some place) e = let z = err-ok (placed (own NotASymbol) place) e in let never : ⊥ = omega arith in absurd never
+passed (Some place) e = absurd (err≢ok (placed (own NotASymbol) place) tt e)
 
 fits-passes : (f : Form) (xs : List ℕ) (o : Option ℕ) → length xs ≡ f .len → o ≡ None → fits f xs (verdict o) ≡ Ok tt
 fits-passes f xs o long none = cond-true (eqb (length xs) (f .len)) (verdict o) (Err (own CodeLength)) (eq-eqb _ _ long) ∙ ap verdict none
@@ -109,8 +100,7 @@ passed-fits f xs o e =
     elim (cases-bool (eqb (length xs) (f .len))) [
       | inl yep ↦ (eqb-true _ _ yep, passed o (sym (cond-true (eqb (length xs) (f .len)) (verdict o) (Err (own CodeLength)) yep) ∙ e))
       | inr nope ↦
-          let z = err-ok (own CodeLength) (sym (cond-false (eqb (length xs) (f .len)) (verdict o) (Err (own CodeLength)) nope) ∙ e) in
-          let never : ⊥ = omega arith in absurd never
+          absurd (err≢ok (own CodeLength) tt (sym (cond-false (eqb (length xs) (f .len)) (verdict o) (Err (own CodeLength)) nope) ∙ e))
     ]
 
 module _ (f : Form) where

@@ -7,7 +7,7 @@
 --   byteOf      the byte that writes a symbol
 --   spanAt      what a number goes to, where a span of numbers goes in order to another
 use mathlib.Core.Bool.{cond, _&&_}
-use mathlib.Core.List.{List, [], _∷_, _++_}
+use mathlib.Core.List.{List, [], _∷_}
 use Prim.Native.Nat.{ℕ, suc, _+_, _-_}
 use lib.Chars.{codes}
 use lib.Dec.{eqb, leb, ltb}

@@ -13,7 +13,7 @@ use lib.ListN.{length, replicate}
 use Rattle.std.specs.declared.option.Option.{Option}
 use Rattle.std.specs.declared.option.Option.the-variants.{None, Some}
 use Rattle.std.specs.declared.result.Result.{Result}
-use Rattle.std.specs.declared.result.Result.the-variants.{Ok, Err}
+use Rattle.std.specs.declared.result.Result.the-variants.{Err}
 use Rattle.formats.specs.declared.alphabet.Alphabet.{Alphabet}
 use Rattle.formats.specs.declared.fault.Cause.the-variants.{ShapeText}
 use Rattle.formats.specs.declared.fault.Fault.{Fault}

@@ -1,4 +1,5 @@
 // A shape: what the codes of a lane are like.
+ghost use mathlib.Core.Path.{_≡_};
 ghost use Prim.Native.Nat.{_*_, _≤_};
 ghost use Rattle.formats.specs.Forms.{leastOf, mostLayers};
 use crate::alphabet::Alphabet;
@@ -19,4 +20,24 @@ pub struct Shape {
     ghost short: { len ≤ 32 },
     ghost enough: { leastOf alphabet len ≤ rounds },
     ghost few: { rounds * len ≤ mostLayers len },
+}
+
+impl Shape {
+    pub fn alphabet(&self) -> Alphabet
+        ensures { λ r. ⌜ r ≡ now (self .entry) .alphabet ⌝ }
+    {
+        self.alphabet
+    }
+
+    pub fn len(&self) -> u8
+        ensures { λ r. ⌜ r ≡ now (self .entry) .len ⌝ }
+    {
+        self.len
+    }
+
+    pub fn rounds(&self) -> u16
+        ensures { λ r. ⌜ r ≡ now (self .entry) .rounds ⌝ }
+    {
+        self.rounds
+    }
 }

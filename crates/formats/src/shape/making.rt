@@ -1,4 +1,4 @@
-// Shapes are made here, and here alone; what a shape answers of itself.
+// Shapes are made here, and here alone.
 ghost use mathlib.Core.Path.{_≡_};
 ghost use Rattle.formats.specs.Alphabets.{radixOf};
 ghost use Rattle.formats.specs.Forms.{formOf, layersOf, mostLayers, remade, made};
@@ -39,24 +39,6 @@ impl Shape {
             len,
             rounds,
         })
-    }
-
-    pub fn alphabet(&self) -> Alphabet
-        ensures { λ r. ⌜ r ≡ form (now (self .entry)) .alphabet ⌝ }
-    {
-        self.alphabet
-    }
-
-    pub fn len(&self) -> u8
-        ensures { λ r. ⌜ r ≡ form (now (self .entry)) .len ⌝ }
-    {
-        self.len
-    }
-
-    pub fn rounds(&self) -> u16
-        ensures { λ r. ⌜ r ≡ form (now (self .entry)) .rounds ⌝ }
-    {
-        self.rounds
     }
 
     // How many symbols the alphabet has.

@@ -1,4 +1,3 @@
-use borrow.Author.Needs.{needs}
 use native.Mathlib.Omega.{arith}
 use Rattle.formats.proofs.Columns.{above-by}
 use Rattle.formats.proofs.rounds.column_above.Needs as need

@@ -1,4 +1,4 @@
-use mathlib.Core.Path.{_≡_, sym, _∙_}
+use mathlib.Core.Path.{sym, _∙_}
 use mathlib.Core.Bool.{true, false}
 use Rattle.formats.specs.RunNames.{printable}
 use Rattle.formats.proofs.Loops.{every-fails, every-goes-on, every-passes, legal-by}
