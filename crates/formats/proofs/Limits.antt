@@ -1,23 +1,25 @@
 -- The limits of a shape and the tests of them. Assumes nothing.
 use mathlib.Core.Path.{_≡_, refl, sym, ap, subst, _∙_}
-use mathlib.Core.Bool.{true, cond}
+use mathlib.Core.Bool.{Bool, true, false, cond}
 use mathlib.Core.Logic.{inl, inr}
 use Prim.Native.Nat.{ℕ, _*_, _≤_}
 use native.Mathlib.Nat.{zero-mul, le-refl}
 use native.Mathlib.Omega.{arith}
 use lib.Dec.{eqb, leb}
+use Rattle.std.specs.declared.option.Option.{Option}
+use Rattle.std.specs.declared.option.Option.the-variants.{None, Some}
 use Rattle.std.specs.declared.result.Result.{Result}
 use Rattle.std.specs.declared.result.Result.the-variants.{Ok, Err}
-use Rattle.std.proofs.shelf.Tests.{cases-bool, cases-eq, cond-true, cond-false, and-parts, and-from, ne-eqb, leb-true, le-leb}
+use Rattle.std.proofs.shelf.Tests.{cases-bool, cases-eq, cond-true, cond-false, and-parts, and-from, eq-eqb, ne-eqb, leb-true, le-leb}
 use Rattle.formats.specs.declared.alphabet.Alphabet.{Alphabet}
 use Rattle.formats.specs.declared.alphabet.Alphabet.the-variants.{Decimal, Hex, Upper, Alphanumeric}
 use Rattle.formats.specs.declared.fault.Cause.the-variants.{Length, Rounds}
 use Rattle.formats.specs.declared.fault.Fault.{Fault}
 use Rattle.formats.specs.declared.shape.Shape.{Shape}
 use Rattle.formats.specs.Faults.{own}
-use Rattle.formats.specs.Forms.{Form, Exists, leastOf, defaultRounds, layersOf, mostLayers, lengthFits, roundsFit}
+use Rattle.formats.specs.Forms.{Form, Exists, formOf, leastOf, defaultRounds, layersOf, mostLayers, lengthFits, roundsFit, remade, made}
 use Rattle.formats.specs.LeastRounds.{least, tabled, columnBelow, columnAbove}
-use Rattle.formats.specs.ShapeLaws.{Bounded, DefaultsExist, Tabled}
+use Rattle.formats.specs.ShapeLaws.{Bounded, Makes, DefaultsExist, Tabled}
 use Rattle.formats.specs.Shapes.{form}
 use Rattle.formats.proofs.Tables.{at-below}
 use Rattle.formats.proofs.Variants.{err≢ok, same-ok}
@@ -51,6 +53,10 @@ form-exists s =
       enough = s .enough;
       few = layers-within (s .len) (s .rounds) (s .few);
     }
+
+-- a test that cannot pass fails
+outside : {b : Bool} → (b ≡ true → ⊥) → b ≡ false
+outside {b} out = elim (cases-bool b) [ inl yep ↦ absurd (out yep) | inr nope ↦ nope ]
 
 module _ (f : Form) where
   fits-length : Exists f → lengthFits (f .len) ≡ true
@@ -116,6 +122,37 @@ defaults-exist a n some short =
       enough = le-refl (defaultRounds a n);
       few = few-layers a n short;
     }
+
+-- what is made
+module _ (a : Alphabet) (n : ℕ) where
+  no-length : (r : ℕ) → (1 ≤ n → n ≤ 32 → ⊥) → remade (formOf a n r) ≡ Err (own Length)
+  no-length r out =
+      cond-false (lengthFits n) (inner (formOf a n r)) (Err (own Length)) (outside (λ e. let parts = and-parts (leb 1 n) (leb n 32) e in out (leb-true 1 n (parts .0)) (leb-true n 32 (parts .1))))
+
+  length-refused : (o : Option ℕ) → (1 ≤ n → n ≤ 32 → ⊥) → made a n o ≡ Err (own Length)
+  length-refused None out = no-length (defaultRounds a n) out
+  length-refused (Some r) out =
+      cond-false (eqb n 1) (Err (own Rounds)) (remade (formOf a n r)) (ne-eqb n 1 (λ one. out (omega arith) (omega arith))) ∙ no-length r out
+
+  named-from-two : (r : ℕ) → 2 ≤ n → made a n (Some r) ≡ remade (formOf a n r)
+  named-from-two r two = cond-false (eqb n 1) (Err (own Rounds)) (remade (formOf a n r)) (ne-eqb n 1 (λ one. omega arith))
+
+  rounds-refused : (r : ℕ) → 2 ≤ n → n ≤ 32 → (Exists (formOf a n r) → ⊥) → remade (formOf a n r) ≡ Err (own Rounds)
+  rounds-refused r two short out =
+      let f = formOf a n r in
+      let fit : lengthFits n ≡ true = and-from _ _ (le-leb 1 n (omega arith)) (le-leb n 32 short) in
+      cond-true (lengthFits n) (inner f) (Err (own Length)) fit ∙ cond-false (roundsFit f) (Ok f) (Err (own Rounds)) (outside (λ e. out (by-tests f fit e)))
+
+  pub makes : Makes a n
+  makes =
+      record {
+        none = λ o e. length-refused o (λ some short. omega arith);
+        long = λ o e. length-refused o (λ some short. omega arith);
+        default = λ some short. bounded (formOf a n (defaultRounds a n)) .within (defaults-exist a n some short);
+        single = λ r e. cond-true (eqb n 1) (Err (own Rounds)) (remade (formOf a n r)) (eq-eqb n 1 e);
+        taken = λ r two is. named-from-two r two ∙ bounded (formOf a n r) .within is;
+        refused = λ r two short out. named-from-two r two ∙ rounds-refused r two short out;
+      }
 
 pub tabled-as-published : Tabled
 unfolding least tabled columnBelow columnAbove

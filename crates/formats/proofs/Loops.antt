@@ -1,7 +1,7 @@
 -- One turn of a loop that tests or changes each entry of a list, and its end. Assumes nothing.
-use mathlib.Core.Path.{_≡_, sym, ap, _∙_}
+use mathlib.Core.Path.{_≡_, refl, sym, ap, _∙_}
 use mathlib.Core.Bool.{Bool, true, false, _&&_}
-use mathlib.Core.List.{List, map, _++_}
+use mathlib.Core.List.{List, [], _∷_, map, _++_}
 use Prim.Native.Nat.{ℕ, suc, _+_, _<_, _≤_}
 use native.Mathlib.Numerals.{add-one}
 use native.Mathlib.Omega.{arith}
@@ -10,7 +10,8 @@ use lib.ListN.{length, getD, take, drop, set}
 use lib.Seq.{take-all}
 use Rattle.std.proofs.shelf.Edits.{map-over-more}
 use Rattle.std.proofs.shelf.Lists.{at-drop-more, at-drop-all, getD-default, append-nil, drop-all}
-use Rattle.std.proofs.shelf.Tests.{cond-true, cond-false, eqb-false, le-leb}
+use Rattle.std.proofs.shelf.Tests.{cond-true, cond-false, eqb-false, le-leb, leb-true, and-parts, and-from}
+use Rattle.std.specs.shelf.Lists.{All}
 use Rattle.std.specs.declared.option.Option.{Option}
 use Rattle.std.specs.declared.option.Option.the-variants.{None, Some}
 use Rattle.std.specs.declared.result.Result.the-variants.{Err}
@@ -18,7 +19,7 @@ use Rattle.formats.specs.declared.fault.Cause.the-variants.{NotASymbol}
 use Rattle.formats.specs.declared.fault.Fault.{Fault}
 use Rattle.formats.specs.Codes.{firstNot, verdict}
 use Rattle.formats.specs.Faults.{own, placed}
-use Rattle.formats.specs.RunNames.{every, printable, legal}
+use Rattle.formats.specs.RunNames.{every, printable, legal, Tells}
 
 -- a stray is told by its place
 pub told : {o : Option ℕ} (fault : Fault) (place : ℕ) → fault ≡ placed (own NotASymbol) place → o ≡ Some place → Err fault ≡ verdict o
@@ -63,3 +64,26 @@ legal-by name b some most e =
     let apart = eqb-false (length name) 0 some in
     let least : 1 ≤ length name = omega arith in
     sym e ∙ sym (ap (λ t. (t && leb (length name) 32) && every printable name) (le-leb 1 (length name) least) ∙ ap (λ t. t && every printable name) (le-leb (length name) 32 most))
+
+-- the test of run names tells them
+shown-all : (name : List ℕ) → every printable name ≡ true → All (λ b. (33 ≤ b) × (b ≤ 126)) name
+shown-all [] e = tt
+shown-all (b ∷ bs) e =
+    let both = and-parts (printable b) (every printable bs) e in
+    let parts = and-parts (leb 33 b) (leb b 126) (both .0) in
+    ((leb-true 33 b (parts .0), leb-true b 126 (parts .1)), shown-all bs (both .1))
+
+all-shown : (name : List ℕ) → All (λ b. (33 ≤ b) × (b ≤ 126)) name → every printable name ≡ true
+all-shown [] all = refl
+all-shown (b ∷ bs) all =
+    and-from (printable b) (every printable bs) (and-from (leb 33 b) (leb b 126) (le-leb 33 b (all .0 .0)) (le-leb b 126 (all .0 .1))) (all-shown bs (all .1))
+
+pub tells : (name : List ℕ) → Tells name
+tells name =
+    record {
+      passes = λ is. and-from _ _ (and-from _ _ (le-leb 1 (length name) (is .some)) (le-leb (length name) 32 (is .short))) (all-shown name (is .shown));
+      only = λ e.
+          let both = and-parts (leb 1 (length name) && leb (length name) 32) (every printable name) e in
+          let ends = and-parts (leb 1 (length name)) (leb (length name) 32) (both .0) in
+          record { some = leb-true 1 (length name) (ends .0); short = leb-true (length name) 32 (ends .1); shown = shown-all name (both .1) };
+    }

@@ -1,28 +1,30 @@
 -- Texts and codes go one to one, and the checks tell them. Assumes nothing.
 use mathlib.Core.Path.{_≡_, refl, sym, ap, _∙_}
-use mathlib.Core.Bool.{Bool, true}
+use mathlib.Core.Bool.{Bool, true, false}
 use mathlib.Core.List.{List, [], _∷_, map}
 use mathlib.Core.Logic.{inl, inr}
-use Prim.Native.Nat.{ℕ, suc, _<_}
+use Prim.Native.Nat.{ℕ, zero, suc, _+_, _<_}
+use native.Mathlib.Nat.{zero-add, suc-add, add-suc}
+use native.Mathlib.Omega.{arith}
 use lib.Dec.{eqb}
-use lib.ListN.{length}
+use lib.ListN.{length, getD}
 use Rattle.std.specs.Options.{isSome, valueOr}
 use Rattle.std.specs.shelf.Lists.{All}
 use Rattle.std.specs.declared.option.Option.{Option}
 use Rattle.std.specs.declared.option.Option.the-variants.{None, Some}
 use Rattle.std.specs.declared.result.Result.the-variants.{Ok, Err}
-use Rattle.std.proofs.shelf.Elements.{all-map, all-weaker}
+use Rattle.std.proofs.shelf.Elements.{all-getD, all-map, all-weaker}
 use Rattle.std.proofs.shelf.Lists.{length-map}
 use Rattle.std.proofs.shelf.Tests.{cases-bool, cond-true, cond-false, eq-eqb, eqb-true, lt-ltb, ltb-true, false≢true}
 use Rattle.formats.specs.declared.alphabet.Alphabet.{Alphabet}
 use Rattle.formats.specs.declared.fault.Cause.the-variants.{CodeLength, NotASymbol}
 use Rattle.formats.specs.Alphabets.{radixOf, symbolOf, byteOf}
-use Rattle.formats.specs.AlphabetLaws.{BackAndForth}
+use Rattle.formats.specs.AlphabetLaws.{First, BackAndForth}
 use Rattle.formats.specs.Codes.{Code, firstNot, writes, isSymbol, symbolAt, byteAt, verdict, unlessStray, fits}
 use Rattle.formats.specs.Faults.{own, placed}
 use Rattle.formats.specs.Forms.{Form}
 use Rattle.formats.proofs.Symbols.{one-to-one}
-use Rattle.formats.proofs.Variants.{some≢none, err≢ok}
+use Rattle.formats.proofs.Variants.{none≢some, some≢none, err≢ok, same-some}
 
 abbrev Passes : (ℕ → Bool) → List ℕ → Type 0
 Passes p xs = All (λ x. p x ≡ true) xs
@@ -40,6 +42,32 @@ all-pass p i (x ∷ xs) e =
       | inr nope ↦
           absurd (some≢none i (sym (cond-false (p x) (firstNot p (suc i) xs) (Some i) nope) ∙ e))
     ]
+
+-- the first entry at which the test fails
+before-more : (p : ℕ → Bool) (x : ℕ) (xs : List ℕ) (k : ℕ) → p x ≡ true → ((m : ℕ) → m < k → p (getD xs m 0) ≡ true) → (m : ℕ) → m < suc k → p (getD (x ∷ xs) m 0) ≡ true
+before-more p x xs k here later zero h = here
+before-more p x xs k here later (suc m) h = later m (omega arith)
+
+first-at : (p : ℕ → Bool) (xs : List ℕ) (j i : ℕ) → firstNot p j xs ≡ Some i → (k : ℕ) × (i ≡ j + k) × (k < length xs) × (p (getD xs k 0) ≡ false) × ((m : ℕ) → m < k → p (getD xs m 0) ≡ true)
+first-at p [] j i e = absurd (none≢some i e)
+first-at p (x ∷ xs) j i e =
+    elim (cases-bool (p x)) [
+      | inl yep ↦
+          let w = first-at p xs (suc j) i (sym (cond-true (p x) (firstNot p (suc j) xs) (Some j) yep) ∙ e) in
+          (suc (w .0), w .1 ∙ suc-add j (w .0) ∙ sym (add-suc j (w .0)), omega arith, w .3, before-more p x xs (w .0) yep (w .4))
+      | inr nope ↦
+          let here = same-some j i (sym (cond-false (p x) (firstNot p (suc j) xs) (Some j) nope) ∙ e) in
+          (0, omega arith, omega arith, nope, λ m h. let never : ⊥ = omega arith in absurd never)
+    ]
+
+pub first : (p : ℕ → Bool) (xs : List ℕ) → First p xs
+first p xs =
+    record {
+      nowhere = λ e k h. all-getD (λ x. p x ≡ true) xs k 0 h (all-pass p 0 xs e);
+      within = λ i e. let w = first-at p xs 0 i e in omega arith;
+      fails = λ i e. let w = first-at p xs 0 i e in ap (λ n. p (getD xs n 0)) (w .1 ∙ zero-add (w .0)) ∙ w .3;
+      passes-before = λ i e k h. let w = first-at p xs 0 i e in w .4 k (omega arith);
+    }
 
 -- what changes each entry, and is refused where an entry does not pass
 abbrev changed : (ℕ → Bool) → (ℕ → ℕ) → List ℕ → List ℕ

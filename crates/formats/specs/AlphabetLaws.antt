@@ -1,15 +1,17 @@
 -- What the alphabets and the texts of codes are held to. Assumes nothing.
 --   OneToOne      an alphabet's symbols and the bytes that write them go one to one
+--   First         the place that a check tells is the first at which its test fails
 --   BackAndForth  texts and codes of a form go one to one, and the checks tell them
 use mathlib.Core.Path.{_≡_}
+use mathlib.Core.Bool.{Bool, true, false}
 use mathlib.Core.List.{List}
 use Prim.Native.Nat.{ℕ, _<_}
-use lib.ListN.{length}
-use Rattle.std.specs.declared.option.Option.the-variants.{Some}
+use lib.ListN.{length, getD}
+use Rattle.std.specs.declared.option.Option.the-variants.{None, Some}
 use Rattle.std.specs.declared.result.Result.the-variants.{Ok}
 use Rattle.formats.specs.declared.alphabet.Alphabet.{Alphabet}
 use Rattle.formats.specs.Alphabets.{bytesOf, radixOf, letterOf, alphabetOf, symbolOf, byteOf}
-use Rattle.formats.specs.Codes.{Code, Text, asSymbols, asBytes, codeVerdict, textVerdict}
+use Rattle.formats.specs.Codes.{Code, Text, firstNot, asSymbols, asBytes, codeVerdict, textVerdict}
 use Rattle.formats.specs.Forms.{Form}
 
 pub record OneToOne (a : Alphabet) : Type 0 where
@@ -24,6 +26,12 @@ pub record OneToOne (a : Alphabet) : Type 0 where
   -- a byte writes the symbol that it is written for, and the other way round
   pub written : (b x : ℕ) → symbolOf a b ≡ Some x → byteOf a x ≡ Some b
   pub read : (b x : ℕ) → byteOf a x ≡ Some b → symbolOf a b ≡ Some x
+
+pub record First (test : ℕ → Bool) (xs : List ℕ) : Type 0 where
+  pub nowhere : firstNot test 0 xs ≡ None → (k : ℕ) → k < length xs → test (getD xs k 0) ≡ true
+  pub within : (i : ℕ) → firstNot test 0 xs ≡ Some i → i < length xs
+  pub fails : (i : ℕ) → firstNot test 0 xs ≡ Some i → test (getD xs i 0) ≡ false
+  pub passes-before : (i : ℕ) → firstNot test 0 xs ≡ Some i → (k : ℕ) → k < i → test (getD xs k 0) ≡ true
 
 pub record BackAndForth (f : Form) : Type 0 where
   -- a text turns into a code, and that code into the same text

@@ -1,5 +1,6 @@
 -- What shapes and their texts are held to. Assumes nothing.
 --   Bounded       a form's parts make a shape exactly where the form exists
+--   Makes         what an alphabet, a length and rounds that may be named make
 --   Spelled       a text is made of an alphabet's letter, a length and, if named, rounds
 --   Spells        a text spells a form
 --   ReadsExactly  the reader takes the texts that spell a form that exists, and no others
@@ -12,7 +13,7 @@ use Rattle.std.specs.declared.option.Option.{Option}
 use Rattle.std.specs.declared.option.Option.the-variants.{None, Some}
 use Rattle.std.specs.declared.result.Result.the-variants.{Ok, Err}
 use Rattle.formats.specs.declared.alphabet.Alphabet.{Alphabet}
-use Rattle.formats.specs.declared.fault.Cause.the-variants.{ShapeText}
+use Rattle.formats.specs.declared.fault.Cause.the-variants.{ShapeText, Length, Rounds}
 use Rattle.formats.specs.Faults.{own}
 use Rattle.formats.specs.Forms.{Form, Exists, formOf, defaultRounds, remade, made}
 use Rattle.formats.specs.LeastRounds.{least}
@@ -21,6 +22,18 @@ use Rattle.formats.specs.ShapeTexts.{stem, tail, readForm, textOf}
 pub record Bounded (f : Form) : Type 0 where
   pub within : Exists f → remade f ≡ Ok f
   pub without : (g : Form) → remade f ≡ Ok g → (f ≡ g) × Exists f
+
+pub record Makes (a : Alphabet) (n : ℕ) : Type 0 where
+  -- a length of 0 or above 32 is refused as such, whatever the rounds
+  pub none : (o : Option ℕ) → n ≡ 0 → made a n o ≡ Err (own Length)
+  pub long : (o : Option ℕ) → 32 < n → made a n o ≡ Err (own Length)
+  -- where no rounds are named there are as many as the default
+  pub default : 1 ≤ n → n ≤ 32 → made a n None ≡ Ok (formOf a n (defaultRounds a n))
+  -- rounds are never named at length 1
+  pub single : (r : ℕ) → n ≡ 1 → made a n (Some r) ≡ Err (own Rounds)
+  -- from length 2 on they are taken where the form exists, and refused as such where it does not
+  pub taken : (r : ℕ) → 2 ≤ n → Exists (formOf a n r) → made a n (Some r) ≡ Ok (formOf a n r)
+  pub refused : (r : ℕ) → 2 ≤ n → n ≤ 32 → (Exists (formOf a n r) → ⊥) → made a n (Some r) ≡ Err (own Rounds)
 
 abbrev pub Spelled : List ℕ → Alphabet → ℕ → Option ℕ → Type 0
 Spelled text a n None = (text ≡ stem a n) × (n < 100)
