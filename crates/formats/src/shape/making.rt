@@ -1,7 +1,7 @@
 // Shapes are made here, and here alone.
 ghost use mathlib.Core.Path.{_≡_};
 ghost use Rattle.formats.specs.Alphabets.{radixOf};
-ghost use Rattle.formats.specs.Forms.{formOf, layersOf, mostLayers, remade, made};
+ghost use Rattle.formats.specs.Forms.{Exists, formOf, layersOf, mostLayers, remade, made};
 ghost use Rattle.formats.specs.Shapes.{form, formed};
 use crate::alphabet::Alphabet;
 use crate::fault::Cause;
@@ -48,9 +48,11 @@ impl Shape {
         self.alphabet.radix()
     }
 
-    // How many layers a code goes through: one for each of its symbols in each round.
+    // How many layers a code goes through: one for each of its symbols in each round. With the other parts they
+    // keep every limit.
     pub fn layers(&self) -> u16
-        ensures { λ r. ⌜ r ≡ layersOf (form (now (self .entry))) ⌝ }
+        ensures value { λ r. ⌜ r ≡ layersOf (form (now (self .entry))) ⌝ }
+        ensures limits { λ _. ⌜ Exists (form (now (self .entry))) ⌝ }
     {
         self.rounds * self.len as u16
     }
