@@ -83,6 +83,7 @@ module _ (f : Form) where
   inner = cond (roundsFit f) (Ok f) (Err (own Rounds))
 
   pub bounded : Bounded f
+  unfolding remade
   bounded =
       record {
         within = λ x. cond-true (lengthFits (f .len)) inner (Err (own Length)) (fits-length x) ∙ cond-true (roundsFit f) (Ok f) (Err (own Rounds)) (fits-rounds x);
@@ -126,6 +127,7 @@ defaults-exist a n some short =
 -- what is made
 module _ (a : Alphabet) (n : ℕ) where
   no-length : (r : ℕ) → (1 ≤ n → n ≤ 32 → ⊥) → remade (formOf a n r) ≡ Err (own Length)
+  unfolding remade
   no-length r out =
       cond-false (lengthFits n) (inner (formOf a n r)) (Err (own Length)) (outside (λ e. let parts = and-parts (leb 1 n) (leb n 32) e in out (leb-true 1 n (parts .0)) (leb-true n 32 (parts .1))))
 
@@ -138,6 +140,7 @@ module _ (a : Alphabet) (n : ℕ) where
   named-from-two r two = cond-false (eqb n 1) (Err (own Rounds)) (remade (formOf a n r)) (ne-eqb n 1 (λ one. omega arith))
 
   rounds-refused : (r : ℕ) → 2 ≤ n → n ≤ 32 → (Exists (formOf a n r) → ⊥) → remade (formOf a n r) ≡ Err (own Rounds)
+  unfolding remade
   rounds-refused r two short out =
       let f = formOf a n r in
       let fit : lengthFits n ≡ true = and-from _ _ (le-leb 1 n (omega arith)) (le-leb n 32 short) in

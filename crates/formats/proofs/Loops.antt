@@ -60,6 +60,7 @@ module _ (f : ℕ → ℕ) (xs ys : List ℕ) (i : ℕ) where
 
 -- a name that is neither empty nor too long is legal if all of its bytes are printable
 pub legal-by : (name : List ℕ) (b : Bool) → eqb (length name) 0 ≡ false → length name ≤ 32 → every printable name ≡ b → b ≡ legal name
+unfolding legal
 legal-by name b some most e =
     let apart = eqb-false (length name) 0 some in
     let least : 1 ≤ length name = omega arith in
@@ -79,6 +80,7 @@ all-shown (b ∷ bs) all =
     and-from (printable b) (every printable bs) (and-from (leb 33 b) (leb b 126) (le-leb 33 b (all .0 .0)) (le-leb b 126 (all .0 .1))) (all-shown bs (all .1))
 
 pub tells : (name : List ℕ) → Tells name
+unfolding legal
 tells name =
     record {
       passes = λ is. and-from _ _ (and-from _ _ (le-leb 1 (length name) (is .some)) (le-leb (length name) 32 (is .short))) (all-shown name (is .shown));

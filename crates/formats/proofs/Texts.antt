@@ -20,7 +20,7 @@ use Rattle.formats.specs.declared.alphabet.Alphabet.{Alphabet}
 use Rattle.formats.specs.declared.fault.Cause.the-variants.{CodeLength, NotASymbol}
 use Rattle.formats.specs.Alphabets.{radixOf, symbolOf, byteOf}
 use Rattle.formats.specs.AlphabetLaws.{First, BackAndForth}
-use Rattle.formats.specs.Codes.{Code, firstNot, writes, isSymbol, symbolAt, byteAt, verdict, unlessStray, fits}
+use Rattle.formats.specs.Codes.{Code, firstNot, writes, isSymbol, symbolAt, byteAt, verdict, unlessStray, fits, asSymbols, asBytes, codeVerdict, textVerdict}
 use Rattle.formats.specs.Faults.{own, placed}
 use Rattle.formats.specs.Forms.{Form}
 use Rattle.formats.proofs.Symbols.{one-to-one}
@@ -140,6 +140,7 @@ module _ (f : Form) where
       record { long = long; symbols = all-weaker (λ x. isSymbol (f .alphabet) x ≡ true) (λ x. x < radixOf (f .alphabet)) (λ x h. ltb-true _ _ h) code all }
 
   pub back-and-forth : BackAndForth f
+  unfolding asSymbols asBytes codeVerdict textVerdict
   back-and-forth =
       let a = f .alphabet in
       record {
@@ -150,6 +151,8 @@ module _ (f : Form) where
           bytes = changed-passes (isSymbol a) (writes a) (byteAt a) (symbolAt a) (λ x e. ap isSome (symbol-back a x e)) (λ x e. ap (λ o. valueOr o 0) (symbol-back a x e)) code (all-symbols code c);
         };
         same-code = λ code c. changed-back (isSymbol a) (writes a) (byteAt a) (symbolAt a) (λ x e. ap isSome (symbol-back a x e)) (λ x e. ap (λ o. valueOr o 0) (symbol-back a x e)) code (all-symbols code c);
+        text-turns = λ text t. none-stray (writes a) 0 text (t .bytes);
+        code-turns = λ code c. none-stray (isSymbol a) 0 code (all-symbols code c);
         code-passes = λ code c. fits-passes f code _ (c .long) (none-stray (isSymbol a) 0 code (all-symbols code c));
         only-codes = λ code e. let p = passed-fits f code _ e in as-code code (p .0) (all-pass (isSymbol a) 0 code (p .1));
         text-passes = λ text t. fits-passes f text _ (t .long) (none-stray (writes a) 0 text (t .bytes));

@@ -11,7 +11,7 @@ use Rattle.std.specs.declared.option.Option.the-variants.{None, Some}
 use Rattle.std.specs.declared.result.Result.the-variants.{Ok}
 use Rattle.formats.specs.declared.alphabet.Alphabet.{Alphabet}
 use Rattle.formats.specs.Alphabets.{bytesOf, radixOf, letterOf, alphabetOf, symbolOf, byteOf}
-use Rattle.formats.specs.Codes.{Code, Text, firstNot, asSymbols, asBytes, codeVerdict, textVerdict}
+use Rattle.formats.specs.Codes.{Code, Text, firstNot, strayByte, straySymbol, asSymbols, asBytes, codeVerdict, textVerdict}
 use Rattle.formats.specs.Forms.{Form}
 
 pub record OneToOne (a : Alphabet) : Type 0 where
@@ -40,6 +40,9 @@ pub record BackAndForth (f : Form) : Type 0 where
   -- a code turns into a text, and that text into the same code
   pub bytes : (code : List ℕ) → Code f code → Text f (asBytes (f .alphabet) code)
   pub same-code : (code : List ℕ) → Code f code → asSymbols (f .alphabet) (asBytes (f .alphabet) code) ≡ code
+  -- neither is refused
+  pub text-turns : (text : List ℕ) → Text f text → strayByte (f .alphabet) text ≡ None
+  pub code-turns : (code : List ℕ) → Code f code → straySymbol (f .alphabet) code ≡ None
   -- the checks pass what is a code, or a text of one, and nothing else
   pub code-passes : (code : List ℕ) → Code f code → codeVerdict f code ≡ Ok tt
   pub only-codes : (code : List ℕ) → codeVerdict f code ≡ Ok tt → Code f code

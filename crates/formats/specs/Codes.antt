@@ -60,10 +60,10 @@ verdict (Some place) = Err (placed (own NotASymbol) place)
 abbrev pub fits : Form → List ℕ → Result Unit Fault → Result Unit Fault
 fits f code answer = cond (eqb (length code) (f .len)) answer (Err (own CodeLength))
 
-abbrev pub codeVerdict : Form → List ℕ → Result Unit Fault
+unfoldable pub codeVerdict : Form → List ℕ → Result Unit Fault
 codeVerdict f code = fits f code (verdict (straySymbol (f .alphabet) code))
 
-abbrev pub textVerdict : Form → List ℕ → Result Unit Fault
+unfoldable pub textVerdict : Form → List ℕ → Result Unit Fault
 textVerdict f text = fits f text (verdict (strayByte (f .alphabet) text))
 
 -- what changes only where nothing is stray
@@ -77,8 +77,8 @@ symbolAt a b = valueOr (symbolOf a b) 0
 abbrev pub byteAt : Alphabet → ℕ → ℕ
 byteAt a x = valueOr (byteOf a x) 0
 
-abbrev pub asSymbols : Alphabet → List ℕ → List ℕ
+unfoldable pub asSymbols : Alphabet → List ℕ → List ℕ
 asSymbols a text = unlessStray (strayByte a text) (map (symbolAt a) text) text
 
-abbrev pub asBytes : Alphabet → List ℕ → List ℕ
+unfoldable pub asBytes : Alphabet → List ℕ → List ℕ
 asBytes a code = unlessStray (straySymbol a code) (map (byteAt a) code) code

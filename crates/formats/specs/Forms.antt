@@ -59,7 +59,7 @@ lengthFits n = leb 1 n && leb n 32
 abbrev pub roundsFit : Form → Bool
 roundsFit f = leb (leastOf (f .alphabet) (f .len)) (f .rounds) && leb (layersOf f) (mostLayers (f .len))
 
-abbrev pub remade : Form → Result Form Fault
+unfoldable pub remade : Form → Result Form Fault
 remade f = cond (lengthFits (f .len)) (cond (roundsFit f) (Ok f) (Err (own Rounds))) (Err (own Length))
 
 -- rounds are never named at length 1, not even 0

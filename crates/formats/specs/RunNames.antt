@@ -28,7 +28,7 @@ every f (x ∷ xs) = f x && every f xs
 abbrev pub printable : ℕ → Bool
 printable b = leb 33 b && leb b 126
 
-abbrev pub legal : List ℕ → Bool
+unfoldable pub legal : List ℕ → Bool
 legal name = (leb 1 (length name) && leb (length name) 32) && every printable name
 
 abbrev pub nameVerdict : List ℕ → Result Unit Fault

@@ -1,8 +1,13 @@
+use borrow.Author.Needs.{needs}
 use mathlib.Core.Path.{sym, _∙_}
 use mathlib.Core.Bool.{true, false}
-use Rattle.formats.specs.RunNames.{printable}
+use Rattle.formats.specs.RunNames.{printable, legal}
 use Rattle.formats.proofs.Loops.{every-fails, every-goes-on, every-passes, legal-by}
 use Rattle.formats.proofs.run_name.is_legal.Needs as need
+
+pub returns-then-is-empty : need.returns-then-is-empty
+unfolding legal
+returns-then-is-empty c = search needs
 
 pub returns-then-not-is-printable : need.returns-then-not-is-printable
 returns-then-not-is-printable c =
