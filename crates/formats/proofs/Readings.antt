@@ -17,7 +17,8 @@ use Rattle.formats.specs.declared.fault.Cause.the-variants.{ShapeText, Rounds}
 use Rattle.formats.specs.Alphabets.{letterOf, alphabetOf}
 use Rattle.formats.specs.Faults.{own}
 use Rattle.formats.specs.Forms.{Form, Exists, formOf, defaultRounds, remade, made}
-use Rattle.formats.specs.ShapeLaws.{Spelled, Spells, ReadsExactly}
+use Rattle.formats.specs.LeastRounds.{least, tabled, columnBelow, columnAbove}
+use Rattle.formats.specs.ShapeLaws.{Spelled, Spells, ReadsExactly, Examples}
 use Rattle.formats.specs.ShapeTexts.{Parts, gathered, partsOf, digit, digitOf, followed, twoDigits, threeDigits, named, namedRounds, stem, tail, answered, readForm, textOf}
 use Rattle.formats.proofs.Limits.{bounded, none-at-one}
 use Rattle.formats.proofs.Symbols.{own-letter, only-letter}
@@ -234,3 +235,21 @@ module _ (text : List ℕ) where
         unread = λ no-parts. unread-from (partsOf text) refl no-parts;
         written = written-read;
       }
+
+pub examples : Examples
+unfolding readForm remade least tabled columnBelow columnAbove
+examples =
+    record {
+      default-ten = refl;
+      default-signs = refl;
+      least-named = refl;
+      one-fewer = refl;
+      most-layers = refl;
+      one-more = refl;
+      one-digit = refl;
+      named-at-one = refl;
+      no-digits = refl;
+      too-long = refl;
+      unknown-letter = refl;
+      two-digits-of-rounds = refl;
+    }

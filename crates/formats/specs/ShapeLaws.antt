@@ -5,14 +5,17 @@
 --   Spells        a text spells a form
 --   ReadsExactly  the reader takes the texts that spell a form that exists, and no others
 --   Tabled        some least numbers, as published
+--   Examples      some texts and what the reader answers to them
 use mathlib.Core.Path.{_≡_}
 use mathlib.Core.List.{List, _++_}
 use mathlib.Core.Logic.{_⊎_}
 use Prim.Native.Nat.{ℕ, _<_, _≤_}
+use lib.Chars.{codes}
 use Rattle.std.specs.declared.option.Option.{Option}
 use Rattle.std.specs.declared.option.Option.the-variants.{None, Some}
 use Rattle.std.specs.declared.result.Result.the-variants.{Ok, Err}
 use Rattle.formats.specs.declared.alphabet.Alphabet.{Alphabet}
+use Rattle.formats.specs.declared.alphabet.Alphabet.the-variants.{Decimal, Alphanumeric}
 use Rattle.formats.specs.declared.fault.Cause.the-variants.{ShapeText, Length, Rounds}
 use Rattle.formats.specs.Faults.{own}
 use Rattle.formats.specs.Forms.{Form, Exists, formOf, defaultRounds, remade, made}
@@ -68,3 +71,17 @@ pub record Tabled : Type 0 where
   pub eleven-digits : least 10 11 ≡ 39
   -- above radix 16
   pub ten-signs : least 36 10 ≡ 34
+
+pub record Examples : Type 0 where
+  pub default-ten : readForm (codes "d10") ≡ Ok (formOf Decimal 10 39)
+  pub default-signs : readForm (codes "m10") ≡ Ok (formOf Alphanumeric 10 34)
+  pub least-named : readForm (codes "d08/042") ≡ Ok (formOf Decimal 8 42)
+  pub one-fewer : readForm (codes "d08/041") ≡ Err (own Rounds)
+  pub most-layers : readForm (codes "d32/064") ≡ Ok (formOf Decimal 32 64)
+  pub one-more : readForm (codes "d32/065") ≡ Err (own Rounds)
+  pub one-digit : readForm (codes "d01") ≡ Ok (formOf Decimal 1 0)
+  pub named-at-one : readForm (codes "d01/000") ≡ Err (own Rounds)
+  pub no-digits : readForm (codes "d00/000") ≡ Err (own Length)
+  pub too-long : readForm (codes "d33") ≡ Err (own Length)
+  pub unknown-letter : readForm (codes "x10") ≡ Err (own ShapeText)
+  pub two-digits-of-rounds : readForm (codes "d10/39") ≡ Err (own ShapeText)

@@ -6,7 +6,7 @@ ghost use Rattle.formats.specs.declared.alphabet.Alphabet.{Alphabet};
 ghost use Rattle.formats.specs.AlphabetLaws.{OneToOne, First, BackAndForth};
 ghost use Rattle.formats.specs.Forms.{Form};
 ghost use Rattle.formats.specs.RunNames.{Tells};
-ghost use Rattle.formats.specs.ShapeLaws.{Bounded, Makes, DefaultsExist, ReadsExactly, Tabled};
+ghost use Rattle.formats.specs.ShapeLaws.{Bounded, Makes, DefaultsExist, ReadsExactly, Tabled, Examples};
 
 // Symbols and bytes go one to one, and so do codes and texts; checks tell the first failure, and tell run names.
 pub fn codes_keep_their_laws()
@@ -23,4 +23,5 @@ pub fn shapes_keep_their_laws()
     ensures defaults { λ _. ⌜ DefaultsExist ⌝ }
     ensures read { λ _. ⌜ ((text : List ℕ) → ReadsExactly text) ⌝ }
     ensures published { λ _. ⌜ Tabled ⌝ }
+    ensures examples { λ _. ⌜ Examples ⌝ }
 {}
