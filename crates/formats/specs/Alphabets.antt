@@ -2,6 +2,7 @@
 --   bytesOf     the bytes that write an alphabet's symbols, the byte of symbol 0 first
 --   radixOf     how many symbols an alphabet has
 --   letterOf    the letter that names an alphabet
+--   alphabets   all of them
 --   alphabetOf  the alphabet that a letter names
 --   symbolOf    the symbol that a byte writes
 --   byteOf      the byte that writes a symbol
@@ -36,9 +37,15 @@ letterOf Hex = 104
 letterOf Upper = 117
 letterOf Alphanumeric = 109
 
+abbrev pub alphabets : List Alphabet
+alphabets = Decimal ∷ Hex ∷ Upper ∷ Alphanumeric ∷ []
+
+abbrev pub namedIn : List Alphabet → ℕ → Option Alphabet
+namedIn [] letter = None
+namedIn (a ∷ more) letter = cond (eqb letter (letterOf a)) (Some a) (namedIn more letter)
+
 abbrev pub alphabetOf : ℕ → Option Alphabet
-alphabetOf letter =
-    cond (eqb letter (letterOf Decimal)) (Some Decimal) (cond (eqb letter (letterOf Hex)) (Some Hex) (cond (eqb letter (letterOf Upper)) (Some Upper) (cond (eqb letter (letterOf Alphanumeric)) (Some Alphanumeric) None)))
+alphabetOf letter = namedIn alphabets letter
 
 -- the first place at which b stands in a list, counted from i
 abbrev pub placeFrom : ℕ → ℕ → List ℕ → Option ℕ

@@ -2,10 +2,15 @@
 --   Code         a string of symbols, as long as its form says
 --   Text         a string of bytes that write the symbols of a code
 --   firstNot     the first place at which a test fails
+--   writes       a byte writes a symbol
+--   isSymbol     a number is a symbol
 --   strayByte    the first byte of a text that writes no symbol
 --   straySymbol  the first number of a code that is no symbol
 --   verdict      what a call answers that looks for strays
---   fits         the same of a call that looks at the length first
+--   codeVerdict  what a check of a code answers: the length comes first, then the strays
+--   textVerdict  the same of a text
+--   symbolAt     the symbol that a byte writes, where it writes one
+--   byteAt       the byte that writes a symbol, where it is one
 --   asSymbols    what a text turns into: the symbols that its bytes write
 --   asBytes      what a code turns into: the bytes that write its symbols
 use mathlib.Core.Path.{_≡_}
@@ -57,6 +62,7 @@ abbrev pub verdict : Option ℕ → Result Unit Fault
 verdict None = Ok tt
 verdict (Some place) = Err (placed (own NotASymbol) place)
 
+-- an answer that waits for the right length
 abbrev pub fits : Form → List ℕ → Result Unit Fault → Result Unit Fault
 fits f code answer = cond (eqb (length code) (f .len)) answer (Err (own CodeLength))
 

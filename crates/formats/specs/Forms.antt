@@ -1,9 +1,12 @@
 -- Forms: what a shape is as plain data, the limits that it keeps, and how one is made. Assumes nothing.
 --   Form           an alphabet, a length and a number of rounds
+--   formOf         the form of three parts
+--   leastOf        the least number of rounds of an alphabet and a length
 --   defaultRounds  the rounds where none are named
 --   layersOf       the layers that the rounds make: a layer for each symbol in each round
 --   mostLayers     the most layers that a length may have
 --   Exists         the limits, all kept
+--   lengthFits, roundsFit   the tests of them
 --   remade         the answer to a form's three parts
 --   made           the answer to an alphabet, a length and rounds that may be named
 use mathlib.Core.Path.{_≡_}

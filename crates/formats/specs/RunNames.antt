@@ -1,8 +1,9 @@
 -- Run names: 1 to 32 bytes, each printable and no space. Assumes nothing.
---   IsRunName    the bytes are a run name
+--   IsRunName    what a run name is
 --   every        a test passes at each entry
---   legal        the test of that
---   nameVerdict  the answer to them
+--   legal        the test for run names
+--   nameVerdict  what a check of one answers
+--   Tells        the test passes the run names, and nothing else
 use mathlib.Core.Path.{_≡_}
 use mathlib.Core.Bool.{Bool, true, cond, _&&_}
 use mathlib.Core.List.{List, [], _∷_}
@@ -34,7 +35,6 @@ legal name = (leb 1 (length name) && leb (length name) 32) && every printable na
 abbrev pub nameVerdict : List ℕ → Result Unit Fault
 nameVerdict name = cond (legal name) (Ok tt) (Err (own RunName))
 
--- the test passes the run names, and nothing else
 pub record Tells (name : List ℕ) : Type 0 where
   pub passes : IsRunName name → legal name ≡ true
   pub only : legal name ≡ true → IsRunName name
