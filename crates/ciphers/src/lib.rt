@@ -1,0 +1,3 @@
+// Ciphers over formats: what each promises, and the ciphers themselves.
+pub mod checks;
+pub mod cipher;
