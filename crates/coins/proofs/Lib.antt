@@ -1,0 +1,4 @@
+pub mod Bits
+pub mod Draws
+pub mod Takes
+pub mod Widths
