@@ -136,12 +136,15 @@ module _ (k : ℕ) (coins : List ℕ) where
 
   -- the bounds of a draw
   pub draw-low : k < 2 → drawing k coins ≡ refusal (own Range)
+  unfolding drawing
   draw-low h = cond-false (leb 2 k && leb k 4096) _ _ (and-left _ _ (lt-leb 2 k h))
 
   pub draw-high : 4096 < k → drawing k coins ≡ refusal (own Range)
+  unfolding drawing
   draw-high h = cond-false (leb 2 k && leb k 4096) _ _ (and-right _ _ (lt-leb k 4096 h))
 
   pub draw-within : 2 ≤ k → k ≤ 4096 → drawing k coins ≡ drawnAt k coins (firstFrom k coins 0 (tries k coins))
+  unfolding drawing
   draw-within l h = cond-true (leb 2 k && leb k 4096) _ _ (and-from _ _ (le-leb 2 k l) (le-leb k 4096 h))
 
 pub share-below : (k v : ℕ) → 0 < k → v < 2 ^ width k → share k v < k

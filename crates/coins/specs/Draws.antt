@@ -57,6 +57,6 @@ abbrev pub drawnAt : ℕ → List ℕ → Option ℕ → Outcome ℕ
 drawnAt k coins (Some n) = record { answer = Ok (share k (tryAt k coins n)); gone = suc n * width k }
 drawnAt k coins None = record { answer = Err (deeper (own CoinsShort)); gone = tries k coins * width k }
 
-abbrev pub drawing : ℕ → List ℕ → Outcome ℕ
+unfoldable pub drawing : ℕ → List ℕ → Outcome ℕ
 drawing k coins =
     cond (leb 2 k && leb k 4096) (drawnAt k coins (firstFrom k coins 0 (tries k coins))) (refusal (own Range))

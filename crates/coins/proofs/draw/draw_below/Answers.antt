@@ -1,12 +1,20 @@
 use mathlib.Core.Path.{_≡_, sym, ap, subst, _∙_}
+use mathlib.Core.Logic.{⊎-elim}
 use mathlib.Core.List.{List}
 use Prim.Native.Nat.{ℕ, _+_, _<_}
 use native.Mathlib.Omega.{arith}
 use lib.ListN.{length}
 use Rattle.std.specs.declared.result.Result.the-variants.{Ok, Err}
 use Rattle.coins.specs.Coins.{counted}
-use Rattle.coins.proofs.Draws.{Turn, passed-none, turn-again, turn-done, turn-left, turn-share, turn-below, turn-fits, turn-less, turn-short, short-left}
+use Rattle.coins.proofs.Draws.{Turn, draw-low, draw-high, passed-none, turn-again, turn-done, turn-left, turn-share, turn-below, turn-fits, turn-less, turn-short, short-left}
+use Rattle.coins.proofs.Takes.{leaves}
 use Rattle.coins.proofs.draw.draw_below.Needs as need
+
+pub returns-then-bound-lt2 : need.returns-then-bound-lt2
+returns-then-bound-lt2 g c =
+    let coins = g .C·Coins .waiting (c .args .coins .now) in
+    let refused = ⊎-elim (draw-low (c .args .bound) coins) (λ h. draw-high (c .args .bound) coins (h .1)) (c .then-bound-lt2 .either) in
+    record { value = ap Err (c .own .ensures) ∙ ap counted (sym refused); after = sym (leaves coins refused); below = tt }
 
 pub loop-v-holds : need.loop-v-holds
 loop-v-holds g c =
