@@ -1,23 +1,24 @@
 -- Draws: one try after the other. Assumes nothing.
-use mathlib.Core.Path.{_≡_, refl, sym, ap, _∙_}
+use mathlib.Core.Path.{_≡_, refl, sym, ap, subst, _∙_}
 use mathlib.Core.Bool.{true, false, cond, _&&_}
 use mathlib.Core.Logic.{⊎-elim}
 use mathlib.Core.List.{List}
 use Prim.Native.Nat.{ℕ, zero, suc, _+_, _-_, _*_, _/_, _%_, _^_, _<_, _≤_, zero-le}
-use native.Mathlib.Nat.{zero-mul, suc-mul, sub-zero, mul-comm}
+use native.Mathlib.Nat.{zero-mul, suc-mul, sub-zero, mul-comm, div-mul-le-self, mul-le-mul-right}
 use native.Mathlib.Numerals.{add-one}
 use native.Mathlib.Omega.{arith}
 use lib.Arith.{digits-lt}
 use lib.Dec.{leb, ltb}
 use lib.ListN.{length, take, drop}
-use lib.Pow.{pow-pos}
+use lib.Pow.{pow-pos, pow-mono}
+use Rattle.std.specs.declared.option.Option.{Option}
 use Rattle.std.specs.declared.option.Option.the-variants.{Some, None}
 use Rattle.std.specs.declared.result.Result.{Result}
 use Rattle.std.specs.declared.result.Result.the-variants.{Ok, Err}
 use Rattle.std.specs.shelf.Lists.{All}
 use Rattle.std.proofs.shelf.Bits.{div-below, le-div, one-shl}
 use Rattle.std.proofs.shelf.Elements.{all-take, all-drop}
-use Rattle.std.proofs.shelf.Lists.{drop-drop, length-drop, length-take-le}
+use Rattle.std.proofs.shelf.Lists.{drop-drop, length-drop, length-take, length-take-le}
 use Rattle.std.proofs.shelf.Tests.{cond-true, cond-false, le-leb, lt-leb, le-ltb, lt-ltb, and-from, and-left, and-right, cases-lt, cases-bool}
 use Rattle.formats.specs.declared.fault.Cause.the-variants.{Range, CoinsShort}
 use Rattle.formats.specs.declared.fault.Fault.{Fault}
@@ -37,7 +38,7 @@ pub record Passed (k : ℕ) (coins : List ℕ) (n : ℕ) (rest : List ℕ) (take
   pub room : n ≤ tries k coins
   pub waits : rest ≡ drop (n * width k) coins
   pub gone : taken ≡ n * width k
-  pub countable : 0 < n → length coins < 2 ^ 128
+  pub bits : 0 < n → Bits coins
   pub search : firstFrom k coins n (tries k coins - n) ≡ firstFrom k coins 0 (tries k coins)
 
 module _ (k : ℕ) (coins : List ℕ) where
@@ -47,7 +48,7 @@ module _ (k : ℕ) (coins : List ℕ) where
         room = zero-le;
         waits = ap (λ n. drop n coins) (sym (zero-mul (width k)));
         gone = sym (zero-mul (width k));
-        countable = λ h. absurd (omega arith);
+        bits = λ h. absurd (omega arith);
         search = ap (firstFrom k coins 0) (sub-zero (tries k coins));
       }
 
@@ -78,15 +79,13 @@ module _ (k : ℕ) (coins : List ℕ) where
     try-is : number (take (width k) rest) ≡ tryAt k coins n
     try-is = ap (λ l. number (take (width k) l)) (p .waits)
 
-    all-countable : Bits rest → length coins < 2 ^ 128
-    all-countable b =
-        ⊎-elim (p .countable)
+    pub all-bits : Bits rest → Bits coins
+    all-bits b =
+        ⊎-elim (p .bits)
         (λ h.
         let z : n ≡ 0 = omega arith in
-        let m : n * width k ≡ 0 = ap (λ i. i * width k) z ∙ zero-mul (width k) in
-        let e = long in
-        let f = b .countable in
-        omega arith)
+        let e : rest ≡ coins = p .waits ∙ ap (λ i. drop i coins) (ap (λ i. i * width k) z ∙ zero-mul (width k)) in
+        subst Bits e b)
         (cases-lt 0 n)
 
     -- a rejected try
@@ -99,7 +98,7 @@ module _ (k : ℕ) (coins : List ℕ) where
           room = m;
           waits = ap (drop (width k)) (p .waits) ∙ drop-drop (width k) (n * width k) coins ∙ ap (λ i. drop i coins) (sym next);
           gone = ap (λ i. i + width k) (p .gone) ∙ sym next;
-          countable = λ _. all-countable b;
+          bits = λ _. all-bits b;
           search =
               sym (cond-true (rejects k (tryAt k coins n)) _ (Some n) (ap (rejects k) (sym try-is) ∙ r)) ∙
               ap (firstFrom k coins n) (sym s) ∙ p .search;
@@ -131,7 +130,7 @@ module _ (k : ℕ) (coins : List ℕ) where
         let e = long in
         let w = width-least k in
         let g = p .gone in
-        let a = all-countable b in
+        let a = all-bits b .countable in
         omega arith
 
   -- the bounds of a draw
@@ -222,6 +221,9 @@ module _ {k : ℕ} {coins : List ℕ} {count : ℕ} {rest : List ℕ} {taken : �
         turn-rest ∙ ap (drop (width k)) (t .passed .waits) ∙ drop-drop (width k) (t .n * width k) coins ∙
         ap (λ m. drop m coins) (ap (λ m. m + width k) (sym (t .passed .gone)) ∙ ap (λ c. taken + c) (sym (t .right))) ∙ sym (leaves coins (turn-done x r))
 
+    pub turn-bits : Bits rest → Bits coins
+    turn-bits b = all-bits k coins (t .n) rest taken (t .passed) b
+
     pub turn-share : All (λ b. b < 2) rest → (x : ℕ) → Some x ≡ givenBy k v → x < k
     turn-share b x r =
         let h = turn-below b in
@@ -249,6 +251,55 @@ module _ {k : ℕ} {coins : List ℕ} {count : ℕ} {rest : List ℕ} {taken : �
     pub short-left : after (taking count rest) rest ≡ after (drawing k coins) coins
     short-left =
         taken-short count rest least most f bad .2 ∙ t .passed .waits ∙ ap (λ m. drop m coins) (sym (t .passed .gone)) ∙ sym (leaves coins turn-short)
+
+-- what a draw gives is below its bound, and it takes no more coins than there are
+try-below : (k : ℕ) (coins : List ℕ) (n : ℕ) → All (λ b. b < 2) coins → tryAt k coins n < 2 ^ width k
+try-below k coins n b =
+    let rest = drop (n * width k) coins in
+    let h = number-below (take (width k) rest) (all-take (λ b. b < 2) (width k) rest (all-drop (λ b. b < 2) (n * width k) coins b)) in
+    let l : length (take (width k) rest) ≤ width k = simp length-take (omega arith) in
+    omega (arith, pow-mono l)
+
+drawn-at-below : (k : ℕ) (coins : List ℕ) (o : Option ℕ) (j : ℕ) → All (λ b. b < 2) coins → 0 < k → drawnAt k coins o .answer ≡ Ok j → j < k
+drawn-at-below k coins (Some n) j b h e =
+    let s : share k (tryAt k coins n) ≡ j = cc in
+    omega (arith, share-below k (tryAt k coins n) h (try-below k coins n b))
+drawn-at-below k coins None j b h e = let z : _≡_ {A = ℕ} 0 1 = cc in absurd (omega arith)
+
+pub drawn-below : (k : ℕ) (coins : List ℕ) (j : ℕ) → All (λ b. b < 2) coins → 2 ≤ k → k ≤ 4096 → drawing k coins .answer ≡ Ok j → j < k
+drawn-below k coins j b l h e =
+    drawn-at-below k coins (firstFrom k coins 0 (tries k coins)) j b (omega arith) (sym (ap (λ o. o .answer) (draw-within k coins l h)) ∙ e)
+
+first-within : (k : ℕ) (coins : List ℕ) (n more m : ℕ) → firstFrom k coins n more ≡ Some m → m < n + more
+first-within k coins n zero m e = let z : _≡_ {A = ℕ} 0 1 = cc in absurd (omega arith)
+first-within k coins n (suc more) m e =
+    ⊎-elim
+    (λ r.
+    let f = cond-true (rejects k (tryAt k coins n)) (firstFrom k coins (suc n) more) (Some n) r in
+    let h = first-within k coins (suc n) more m (sym f ∙ e) in
+    omega arith)
+    (λ r.
+    let f = cond-false (rejects k (tryAt k coins n)) (firstFrom k coins (suc n) more) (Some n) r in
+    let s : n ≡ m = cc in
+    omega arith)
+    (cases-bool (rejects k (tryAt k coins n)))
+
+drawn-at-within : (k : ℕ) (coins : List ℕ) (o : Option ℕ) → ((m : ℕ) → o ≡ Some m → m < tries k coins) → drawnAt k coins o .gone ≤ length coins
+drawn-at-within k coins (Some n) h =
+    let l = div-mul-le-self (length coins) (width k) in
+    let m = mul-le-mul-right (width k) (h n refl) in
+    omega arith
+drawn-at-within k coins None h = div-mul-le-self (length coins) (width k)
+
+pub drawn-within : (k : ℕ) (coins : List ℕ) → drawing k coins .gone ≤ length coins
+drawn-within k coins =
+    ⊎-elim
+    (λ h. rw (draw-low k coins h) zero-le)
+    (λ h. ⊎-elim
+    (λ m. rw (draw-high k coins m) zero-le)
+    (λ m. rw (draw-within k coins h m) (drawn-at-within k coins (firstFrom k coins 0 (tries k coins)) (λ n e. let l = first-within k coins 0 (tries k coins) n e in omega arith)))
+    (cases-lt 4096 k))
+    (cases-lt k 2)
 
 -- the power that the code holds
 pub power-is : (k count : ℕ) → count ≡ width k → k ≤ 4096 → 1 * 2 ^ count % 4294967296 ≡ 2 ^ width k

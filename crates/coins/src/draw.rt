@@ -2,7 +2,7 @@
 ghost use mathlib.Core.Path.{_≡_};
 ghost use Prim.Native.Nat.{_^_, _≤_, _<_};
 ghost use Rattle.std.specs.Vec.{made};
-ghost use Rattle.coins.specs.Coins.{after, counted};
+ghost use Rattle.coins.specs.Coins.{Bits, after, counted};
 ghost use Rattle.coins.specs.Draws.{width, givenBy, drawing};
 use crate::source::Coins;
 use formats::fault::Cause;
@@ -14,6 +14,7 @@ use formats::fault::Fault;
 pub fn draw_below<C: Coins>(coins: &mut C, bound: u16) -> Result<(u16, u128), Fault>
     ensures value { λ r. ⌜ r ≡ counted (drawing bound (waiting (now (coins .entry)))) ⌝ }
     ensures after { λ _. ⌜ waiting (now (coins .exit)) ≡ after (drawing bound (waiting (now (coins .entry)))) (waiting (now (coins .entry))) ⌝ }
+    ensures bits { λ r. ⌜ made r (λ _. Bits (waiting (now (coins .entry)))) ⌝ }
     ensures below { λ r. ⌜ made r (λ drawn. drawn .0 < bound) ⌝ }
 {
     if bound < 2 || bound > 4096 {

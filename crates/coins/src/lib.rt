@@ -2,4 +2,6 @@
 pub mod bytes;
 pub mod draw;
 pub mod laws;
+pub mod sbox;
+mod shuffle;
 pub mod source;

@@ -6,7 +6,7 @@ use native.Mathlib.Omega.{arith}
 use lib.ListN.{length}
 use Rattle.std.specs.declared.result.Result.the-variants.{Ok, Err}
 use Rattle.coins.specs.Coins.{counted}
-use Rattle.coins.proofs.Draws.{Turn, draw-low, draw-high, passed-none, turn-again, turn-done, turn-left, turn-share, turn-below, turn-fits, turn-less, turn-short, short-left}
+use Rattle.coins.proofs.Draws.{Turn, draw-low, draw-high, passed-none, turn-again, turn-done, turn-left, turn-bits, turn-share, turn-below, turn-fits, turn-less, turn-short, short-left}
 use Rattle.coins.proofs.Takes.{leaves}
 use Rattle.coins.proofs.draw.draw_below.Needs as need
 
@@ -14,7 +14,7 @@ pub returns-then-bound-lt2 : need.returns-then-bound-lt2
 returns-then-bound-lt2 g c =
     let coins = g .C·Coins .waiting (c .args .coins .now) in
     let refused = ⊎-elim (draw-low (c .args .bound) coins) (λ h. draw-high (c .args .bound) coins (h .1)) (c .then-bound-lt2 .either) in
-    record { value = ap Err (c .own .ensures) ∙ ap counted (sym refused); after = sym (leaves coins refused); below = tt }
+    record { value = ap Err (c .own .ensures) ∙ ap counted (sym refused); after = sym (leaves coins refused); bits = tt; below = tt }
 
 pub loop-v-holds : need.loop-v-holds
 loop-v-holds g c =
@@ -33,6 +33,7 @@ returns-in-Err g c =
     record {
       value = ap Err (c .passed-up .ensures) ∙ ap counted (sym done);
       after = took .after ∙ short-left (c .loop-v .inv) (c .in-Err .fault) (took .value);
+      bits = tt;
       below = tt;
     }
 
@@ -57,6 +58,7 @@ returns-in-Some g c =
     record {
       value = ap (λ n. Ok (c .in-Some .number, c .loop-v .taken + n)) (c .from-taken .ensures) ∙ ap counted (sym done);
       after = took .after ∙ turn-left (c .loop-v .inv) (c .in-Ok .v) (took .value) (c .in-Some .number) (c .in-Some .ensures tt);
+      bits = turn-bits (c .loop-v .inv) (c .in-Ok .v) (took .value) (took .bits);
       below = turn-share (c .loop-v .inv) (c .in-Ok .v) (took .value) (took .bits .each) (c .in-Some .number) (c .in-Some .ensures tt);
     }
 
