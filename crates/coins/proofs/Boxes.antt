@@ -11,7 +11,7 @@ use lib.Dec.{eqb}
 use lib.ListN.{length, getD, set, take, drop}
 use Rattle.std.specs.Iters.{counting}
 use Rattle.std.proofs.shelf.Counted.{length-counting, getD-counting}
-use Rattle.std.proofs.shelf.Lists.{getD-take, length-set, getD-set-same, getD-set-other}
+use Rattle.std.proofs.shelf.Lists.{getD-take, length-take-le, length-set, getD-set-same, getD-set-other}
 use Rattle.std.proofs.shelf.Results.{made-at-ok}
 use Rattle.std.proofs.shelf.Tests.{cases-eq, cases-lt, cond-both, eqb-true, eqb-false}
 use Rattle.std.specs.Vec.{made}
@@ -174,3 +174,20 @@ module _ (a : ℕ) (table : List ℕ) (p : Permutation a (take a table)) where
         let e : getD table (at .0) 0 ≡ y = sym (front (at .0) (at .1)) ∙ at .2 in
         let f : getD inverse y 0 ≡ at .0 = ap (λ n. getD inverse n 0) (sym e) ∙ filled (at .0) (at .1) in
         (subst (λ (n : ℕ). n < a) (sym f) (at .1), ap (λ n. getD table n 0) f ∙ e)
+
+-- tables that undo each other, cut at the radix
+module _ (a : ℕ) (table back : List ℕ) (there : Undoes a table back) where
+  pub front-undoes : Undoes a (take a table) (take a back)
+  front-undoes x h =
+      let t = there x h in
+      let e = getD-take a table x 0 h in
+      (subst (λ (n : ℕ). n < a) (sym e) (t .0), ap (λ n. getD (take a back) n 0) e ∙ getD-take a back (getD table x 0) 0 (t .0) ∙ t .1)
+
+  pub undone-permutes : a ≤ length table → Undoes a back table → Permutation a (take a table)
+  undone-permutes l again =
+      record {
+        long = length-take-le a table l;
+        inside = λ x h. front-undoes x h .0;
+        once = λ x y h k e. sym (front-undoes x h .1) ∙ ap (λ n. getD (take a back) n 0) e ∙ front-undoes y k .1;
+        everywhere = λ y h. (getD back y 0, again y h .0, getD-take a table (getD back y 0) 0 (again y h .0) ∙ again y h .1);
+      }

@@ -5,4 +5,5 @@ pub mod Fair
 pub mod Places
 pub mod Swaps
 pub mod Takes
+pub mod Tells
 pub mod Widths

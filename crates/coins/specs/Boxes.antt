@@ -1,5 +1,7 @@
 -- Boxes: permutations of the numbers below a radix, as tables, and how coins make one. Assumes nothing.
 --   Permutation  a table holds each number below the radix, and each once
+--   permutes     the test of that, by the entries alone
+--   Tells        the test tells a permutation
 --   Undoes       a second table takes each number that the first gives back to where it came from
 --   swapped      a table with two places changed
 --   swaps        the swaps from a place down to the second, each with a place that a draw finds
@@ -7,10 +9,10 @@
 --   MadeIn       a call makes a box in a table
 --   Shuffles     whatever the coins, what is made is a permutation
 use mathlib.Core.Path.{_≡_}
-use mathlib.Core.Bool.{cond, _&&_}
-use mathlib.Core.List.{List}
+use mathlib.Core.Bool.{Bool, true, not, cond, _&&_}
+use mathlib.Core.List.{List, [], _∷_}
 use Prim.Native.Nat.{ℕ, zero, suc, _+_, _-_, _<_, _≤_}
-use lib.Dec.{leb}
+use lib.Dec.{leb, ltb, eqb}
 use lib.ListN.{length, getD, set}
 use Rattle.std.specs.Iters.{counting}
 use Rattle.std.specs.Vec.{made}
@@ -31,6 +33,23 @@ pub record Permutation (a : ℕ) (table : List ℕ) : Type 0 where
   pub once : (x y : ℕ) → x < a → y < a → getD table x 0 ≡ getD table y 0 → x ≡ y
   -- and each stands somewhere
   pub everywhere : (y : ℕ) → y < a → (x : ℕ) × (x < a) × (getD table x 0 ≡ y)
+
+-- the test of a table: each entry is below its length, and none stands again after its place
+abbrev pub absent : ℕ → List ℕ → Bool
+absent y [] = true
+absent y (x ∷ xs) = not (eqb x y) && absent y xs
+
+unfoldable pub belowOnce : ℕ → List ℕ → Bool
+belowOnce a [] = true
+belowOnce a (x ∷ xs) = (ltb x a && absent x xs) && belowOnce a xs
+
+unfoldable pub permutes : List ℕ → Bool
+permutes table = belowOnce (length table) table
+
+-- the test tells a permutation
+pub record Tells (table : List ℕ) : Type 0 where
+  pub sound : permutes table ≡ true → Permutation (length table) table
+  pub complete : Permutation (length table) table → permutes table ≡ true
 
 abbrev pub Undoes : ℕ → List ℕ → List ℕ → Type 0
 Undoes a table back = (x : ℕ) → x < a → (getD table x 0 < a) × (getD back (getD table x 0) 0 ≡ x)
