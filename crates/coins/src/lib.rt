@@ -3,5 +3,4 @@ pub mod bytes;
 pub mod draw;
 pub mod laws;
 pub mod sbox;
-mod shuffle;
 pub mod source;
