@@ -1,0 +1,9 @@
+pub mod Bits
+pub mod Boxes
+pub mod Draws
+pub mod Fair
+pub mod Places
+pub mod Swaps
+pub mod Takes
+pub mod Tells
+pub mod Widths

@@ -1,0 +1,2 @@
+// Pools: 256 boxes of one radix, from coins or from a file.
+pub mod pool;
