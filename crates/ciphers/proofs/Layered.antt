@@ -34,34 +34,34 @@ plus-minus a x y hx hy =
 less-below : (a w u y : ℕ) → u < a → less a w u y < a
 less-below a w u y h =
     elim (cases-bool (eqb w 0)) [
-      inl e ↦ subst (λ n. n < a) (sym (cond-true (eqb w 0) u (minus a u y) e)) h
-    | inr e ↦ subst (λ n. n < a) (sym (cond-false (eqb w 0) u (minus a u y) e)) (minus-below a u y (omega arith))
+      | inl e ↦ subst (λ n. n < a) (sym (cond-true (eqb w 0) u (minus a u y) e)) h
+      | inr e ↦ subst (λ n. n < a) (sym (cond-false (eqb w 0) u (minus a u y) e)) (minus-below a u y (omega arith))
     ]
 
 more-below : (a w u y : ℕ) → u < a → more a w u y < a
 more-below a w u y h =
     elim (cases-bool (eqb w 0)) [
-      inl e ↦ subst (λ n. n < a) (sym (cond-true (eqb w 0) u (plus a u y) e)) h
-    | inr e ↦ subst (λ n. n < a) (sym (cond-false (eqb w 0) u (plus a u y) e)) (plus-below a u y (omega arith))
+      | inl e ↦ subst (λ n. n < a) (sym (cond-true (eqb w 0) u (plus a u y) e)) h
+      | inr e ↦ subst (λ n. n < a) (sym (cond-false (eqb w 0) u (plus a u y) e)) (plus-below a u y (omega arith))
     ]
 
 -- what is taken off comes back, where the same symbol is added; at w = 0 none is
 more-less : (a w u y z : ℕ) → u < a → y < a → (0 < w → z ≡ y) → more a w (less a w u y) z ≡ u
 more-less a w u y z hu hy e =
     elim (cases-bool (eqb w 0)) [
-      inl t ↦ cond-true (eqb w 0) _ _ t ∙ cond-true (eqb w 0) _ _ t
-    | inr t ↦
-        let p : 0 < w = omega (arith, eqb-false w 0 t) in
-        cond-false (eqb w 0) _ _ t ∙ ap (λ n. plus a n z) (cond-false (eqb w 0) _ _ t) ∙ ap (plus a (minus a u y)) (e p) ∙ plus-minus a u y hu hy
+      | inl t ↦ cond-true (eqb w 0) _ _ t ∙ cond-true (eqb w 0) _ _ t
+      | inr t ↦
+          let p : 0 < w = omega (arith, eqb-false w 0 t) in
+          cond-false (eqb w 0) _ _ t ∙ ap (λ n. plus a n z) (cond-false (eqb w 0) _ _ t) ∙ ap (plus a (minus a u y)) (e p) ∙ plus-minus a u y hu hy
     ]
 
 less-more : (a w u y z : ℕ) → u < a → y < a → (0 < w → z ≡ y) → less a w (more a w u y) z ≡ u
 less-more a w u y z hu hy e =
     elim (cases-bool (eqb w 0)) [
-      inl t ↦ cond-true (eqb w 0) _ _ t ∙ cond-true (eqb w 0) _ _ t
-    | inr t ↦
-        let p : 0 < w = omega (arith, eqb-false w 0 t) in
-        cond-false (eqb w 0) _ _ t ∙ ap (λ n. minus a n z) (cond-false (eqb w 0) _ _ t) ∙ ap (minus a (plus a u y)) (e p) ∙ minus-plus a u y hu hy
+      | inl t ↦ cond-true (eqb w 0) _ _ t ∙ cond-true (eqb w 0) _ _ t
+      | inr t ↦
+          let p : 0 < w = omega (arith, eqb-false w 0 t) in
+          cond-false (eqb w 0) _ _ t ∙ ap (λ n. minus a n z) (cond-false (eqb w 0) _ _ t) ∙ ap (minus a (plus a u y)) (e p) ∙ minus-plus a u y hu hy
     ]
 
 module _ (a count len w v : ℕ) (boxes inverses : List (List ℕ)) (good : Permutes a count boxes inverses) (near : Near len w v) where
@@ -119,11 +119,11 @@ module _ (a count len w v : ℕ) (boxes inverses : List (List ℕ)) (good : Perm
       let ahead : 0 < w → getD y (w - 1) 0 ≡ getD x w 0 = λ p. inner x0 z xs w (w - 1) (omega (arith, s .long, near .ahead, p)) (omega (arith, p)) in
       let first : image inverses i (getD y (length y - 1) 0) ≡ t = ap (image inverses i) last ∙ good .there i t h ht in
       let second : more a w (image inverses i (getD y (length y - 1) 0)) (getD y (w - 1) 0) ≡ u =
-          ap (λ n. more a w n (getD y (w - 1) 0)) first ∙ more-less a w u (getD x w 0) (getD y (w - 1) 0) hu (at x w s (near .ahead)) ahead in
+      ap (λ n. more a w n (getD y (w - 1) 0)) first ∙ more-less a w u (getD x w 0) (getD y (w - 1) 0) hu (at x w s (near .ahead)) ahead in
       let third : image inverses i (more a w (image inverses i (getD y (length y - 1) 0)) (getD y (w - 1) 0)) ≡ plus a x0 b =
-          ap (image inverses i) second ∙ good .there i (plus a x0 b) h (plus-below a x0 b (omega (arith, hx))) in
+      ap (image inverses i) second ∙ good .there i (plus a x0 b) h (plus-below a x0 b (omega (arith, hx))) in
       let head : minus a (image inverses i (more a w (image inverses i (getD y (length y - 1) 0)) (getD y (w - 1) 0))) (getD y (length y - v - 1) 0) ≡ x0 =
-          ap (λ n. minus a n (getD y (length y - v - 1) 0)) third ∙ (ap (minus a (plus a x0 b)) behind ∙ minus-plus a x0 b hx hb) in
+      ap (λ n. minus a n (getD y (length y - v - 1) 0)) third ∙ (ap (minus a (plus a x0 b)) behind ∙ minus-plus a x0 b hx hb) in
       ap (λ n. n ∷ take (length y - 1) y) head ∙ ap (λ l. x0 ∷ l) (take-at xs (z ∷ []) (length y - 1) ends)
 
   backward-undone : (i : ℕ) (y : List ℕ) → i < count → Symbols a len y → forwardLayer boxes a w v i (backwardLayer inverses a w v i y) ≡ y
@@ -152,7 +152,7 @@ module _ (a count len w v : ℕ) (boxes inverses : List (List ℕ)) (good : Perm
       let sum : plus a x0 (getD x (length x - v) 0) ≡ t = ap (plus a x0) behind ∙ plus-minus a t b ht hb in
       let first : image boxes i (plus a x0 (getD x (length x - v) 0)) ≡ m = ap (image boxes i) sum ∙ good .back i m h hm in
       let second : less a w (image boxes i (plus a x0 (getD x (length x - v) 0))) (getD x w 0) ≡ u =
-          ap (λ n. less a w n (getD x w 0)) first ∙ less-more a w u c (getD x w 0) hu hc ahead in
+      ap (λ n. less a w n (getD x w 0)) first ∙ less-more a w u c (getD x w 0) hu hc ahead in
       let last : image boxes i (less a w (image boxes i (plus a x0 (getD x (length x - v) 0))) (getD x w 0)) ≡ l = ap (image boxes i) second ∙ good .back i l h hl in
       let whole : ys ++ (l ∷ []) ≡ y = sym (take-more y (length y - 1) 0 (omega (arith, long))) ∙ take-all (length y - 1 + 1) y (omega (arith, long)) in
       ap (λ n. ys ++ (n ∷ [])) last ∙ whole

@@ -1,2 +1,3 @@
 pub mod Checked
 pub mod Layered
+pub mod Moves

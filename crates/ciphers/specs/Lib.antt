@@ -1,3 +1,4 @@
 pub mod Meanings
 pub mod Swaps
 pub mod Layers
+pub mod Tables

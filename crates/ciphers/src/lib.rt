@@ -1,3 +1,4 @@
 // Ciphers over formats: what each promises, and the ciphers themselves.
 pub mod checks;
 pub mod cipher;
+mod window;

@@ -3,6 +3,7 @@ ghost use mathlib.Core.Path.{_≡_};
 ghost use Prim.Native.Nat.{_+_, _*_, _≤_};
 ghost use lib.ListN.{length, take};
 ghost use Rattle.pools.specs.Rows.{rowsOf, flat, Inside, Undone};
+
 mod read;
 
 // Where a pool's coins came from: an index sequence takes another label for a pool from the key.

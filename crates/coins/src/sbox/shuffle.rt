@@ -33,11 +33,7 @@ impl Sbox {
 
 // Fills the first `radix` entries of a table with the numbers below the radix, shuffled. Answers how many coins
 // that took. A draw that finds too few coins is passed up.
-fn shuffle_front<C: Coins>(
-    coins: &mut C,
-    radix: u16,
-    table: &mut [u16],
-) -> Result<u128, Fault>
+fn shuffle_front<C: Coins>(coins: &mut C, radix: u16, table: &mut [u16]) -> Result<u128, Fault>
     requires least { ⌜ 2 ≤ radix ⌝ }
     requires most { ⌜ radix ≤ 4096 ⌝ }
     requires within { ⌜ radix ≤ length (now table) ⌝ }
