@@ -37,6 +37,38 @@ pub(crate) fn encrypt(
     }
 }
 
+// The backward layers of all indices, the last one first. The window ends with the code, and begins with its image.
+pub(crate) fn decrypt(
+    table: &[u8],
+    radix: usize,
+    indices: &[u8],
+    window: &mut [u8],
+    len: usize,
+    w: usize,
+    v: usize,
+)
+    requires table { ⌜ Reads radix (now table) ⌝ }
+    requires near { ⌜ Near len w v ⌝ ∗ ⌜ len ≤ 32 ⌝ }
+    requires room { ⌜ length (now window) ≡ length (now indices) + len ⌝ ∗ ⌜ length (now indices) ≤ 2048 ⌝ }
+    requires symbols { ⌜ All (λ x. x < radix) (now window) ⌝ }
+    ensures { λ _. ⌜ take len (now (window .exit)) ≡ coreDecrypt (rowsOf radix 256 (now (table .entry))) radix w v (now (indices .entry)) (take len (drop (length (now (indices .entry))) (now (window .entry)))) ⌝ }
+{
+    let mut k = indices.len();
+    while k > 0 {
+        k -= 1;
+        let z = backward_symbol(
+            table,
+            radix,
+            w,
+            indices[k],
+            window[k + len],
+            window[k + w],
+            window[k + (len - v)],
+        );
+        window[k] = z;
+    }
+}
+
 // S(S(x + b) - c), and S(S(x + b)) at the distance w = 0, S being box i.
 fn forward_symbol(table: &[u8], radix: usize, w: usize, i: u8, x: u8, b: u8, c: u8) -> u8
     requires table { ⌜ Reads radix (now table) ⌝ }
@@ -60,4 +92,35 @@ fn look(table: &[u8], radix: usize, row: usize, t: usize, i: u8) -> u8
     ensures value { λ r. ⌜ r ≡ image (rowsOf radix 256 (now (table .entry))) i (t % radix) ⌝ }
 {
     table[row + t]
+}
+
+// T(T(x) + c) - b, and T(T(x)) - b at the distance w = 0, T being the inverse i.
+fn backward_symbol(table: &[u8], radix: usize, w: usize, i: u8, x: u8, c: u8, b: u8) -> u8
+    requires table { ⌜ Reads radix (now table) ⌝ }
+    requires symbols { ⌜ x < radix ⌝ ∗ ⌜ c < radix ⌝ ∗ ⌜ b < radix ⌝ }
+    ensures small { λ r. ⌜ r < radix ⌝ }
+    ensures value { λ r. ⌜ r ≡ minus radix (image (rowsOf radix 256 (now (table .entry))) i (more radix w (image (rowsOf radix 256 (now (table .entry))) i x) c)) b ⌝ }
+{
+    let row = i as usize * (radix + radix);
+    let u = look(table, radix, row, x as usize, i);
+    if w == 0 {
+        return difference(radix, look(table, radix, row, u as usize, i), b);
+    }
+    difference(
+        radix,
+        look(table, radix, row, u as usize + c as usize, i),
+        b,
+    )
+}
+
+// t - b modulo the radix.
+fn difference(radix: usize, t: u8, b: u8) -> u8
+    requires { ⌜ t < radix ⌝ ∗ ⌜ b < radix ⌝ ∗ ⌜ radix ≤ 64 ⌝ }
+    ensures small { λ r. ⌜ r < radix ⌝ }
+    ensures value { λ r. ⌜ r ≡ minus radix t b ⌝ }
+{
+    if t < b {
+        return (t as usize + (radix - b as usize)) as u8;
+    }
+    t - b
 }
