@@ -1,3 +1,4 @@
 pub mod Checked
 pub mod Layered
 pub mod Moves
+pub mod Doubled
