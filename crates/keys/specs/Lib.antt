@@ -1,0 +1,4 @@
+pub mod Labels
+pub mod Distances
+pub mod Encodings
+pub mod Derived
