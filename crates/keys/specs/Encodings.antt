@@ -3,6 +3,7 @@
 --   Detail     what the lists of index sequences go on with
 --   Purpose    what a key is derived for: with a counter, a list
 --   opening    the bytes that every list opens with
+--   sizes      the bytes that the lists of index sequences have between the opening and the run name
 --   encode     a list as bytes
 --   InRange    the ranges that the fields of a list have
 --   Apart      lists are encoded alike exactly when they are equal
@@ -37,11 +38,12 @@ pub data Purpose : Type 0 where
 abbrev pub opening : ℕ → Label → ℕ → List ℕ
 opening counter label radix = counter ∷ numberOf label ∷ (two 256 ++ two radix ++ two 256)
 
-abbrev pub detailed : Detail → List ℕ
-detailed d = d .len ∷ (two (d .layers) ++ d .w ∷ d .w′ ∷ length (d .run) ∷ d .run)
+-- the sizes and the length of the run name
+abbrev pub sizes : Detail → List ℕ
+sizes d = d .len ∷ (two (d .layers) ++ d .w ∷ d .w′ ∷ length (d .run) ∷ [])
 
 abbrev pub encode : ℕ → Purpose → List ℕ
-encode counter (ofSequence s radix d) = opening counter (labelOf s) radix ++ detailed d
+encode counter (ofSequence s radix d) = opening counter (labelOf s) radix ++ (sizes d ++ d .run)
 encode counter (ofPool radix) = opening counter FpePool radix
 
 pub record DetailInRange (d : Detail) : Type 0 where
