@@ -4,3 +4,4 @@ pub mod Quads
 pub mod Schedule
 pub mod Digits
 pub mod Macs
+pub mod Bytes
