@@ -43,11 +43,11 @@ flat-at a (suc n) (suc i) t table h l g =
 copy-at : (a t : ℕ) (r : List ℕ) → 0 < a → length r ≡ a → t < a + a → getD (r ++ r) t 0 ≡ getD r (t % a) 0
 copy-at a t r p lr g =
     elim (cases-lt t a) [
-      inl l ↦ getD-append-left r r 0 t (omega (arith, lr)) ∙ ap (λ k. getD r k 0) (sym (mod-eq-of-lt l))
-    | inr h ↦
-        let low : t - a < a = omega arith in
-        let whole : t ≡ t - a + a = omega arith in
-        getD-append-right r r a t 0 lr h ∙ ap (λ k. getD r k 0) (sym (ap (λ n. n % a) whole ∙ (add-mod-right (t - a) a ∙ mod-eq-of-lt low)))
+      | inl l ↦ getD-append-left r r 0 t (omega (arith, lr)) ∙ ap (λ k. getD r k 0) (sym (mod-eq-of-lt l))
+      | inr h ↦
+          let low : t - a < a = omega arith in
+          let whole : t ≡ t - a + a = omega arith in
+          getD-append-right r r a t 0 lr h ∙ ap (λ k. getD r k 0) (sym (ap (λ n. n % a) whole ∙ (add-mod-right (t - a) a ∙ mod-eq-of-lt low)))
     ]
 
 pub reads : (a : ℕ) (table : List ℕ) → 4 ≤ a → a ≤ 64 → length table ≡ 32768 → take (256 * (a + a)) table ≡ flat (rowsOf a 256 table) → Inside a 256 (rowsOf a 256 table) → Reads a table
@@ -58,10 +58,10 @@ reads a table least most long doubled inside = record {
   long = long;
   inside = λ i x hi hx. inside i x (hi, hx);
   looks = λ i t hi ht.
-    let room : 256 * (a + a) ≤ length table = omega (arith, long, most) in
-    let place : i * (a + a) + t < 256 * (a + a) = omega (arith, mul-add-lt i (a + a) t 256 hi ht) in
-    sym (getD-take (256 * (a + a)) table (i * (a + a) + t) 0 place)
-    ∙ (ap (λ l. getD l (i * (a + a) + t) 0) doubled
-    ∙ (flat-at a 256 i t table room hi ht
-    ∙ copy-at a t (getD (rowsOf a 256 table) i []) (omega (arith, least)) (row-long a 256 i table room hi) ht));
+      let room : 256 * (a + a) ≤ length table = omega (arith, long, most) in
+      let place : i * (a + a) + t < 256 * (a + a) = omega (arith, mul-add-lt i (a + a) t 256 hi ht) in
+      sym (getD-take (256 * (a + a)) table (i * (a + a) + t) 0 place)
+      ∙ (ap (λ l. getD l (i * (a + a) + t) 0) doubled
+      ∙ (flat-at a 256 i t table room hi ht
+      ∙ copy-at a t (getD (rowsOf a 256 table) i []) (omega (arith, least)) (row-long a 256 i table room hi) ht));
 }

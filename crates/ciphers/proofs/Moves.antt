@@ -47,7 +47,7 @@ wide : (len k : ℕ) (buf : List ℕ) → k + len ≤ length buf → length (tak
 wide len k buf h = length-take-le len (drop k buf) (omega (arith, length-drop k buf))
 
 module _ (boxes : List (List ℕ)) (a len w v : ℕ) (near : Near len w v) where
-  pub encrypt-more : (seq buf : List ℕ) (k z : ℕ) → k < length seq → length buf ≡ length seq + len
+  pub encrypt-more : (seq buf : List ℕ) (k z : ℕ) → k < length seq → length seq + len ≤ length buf
       → z ≡ image boxes (getD seq k 0) (less a w (image boxes (getD seq k 0) (plus a (getD buf k 0) (getD buf (k + (len - v)) 0))) (getD buf (k + w) 0))
       → coreEncrypt boxes a w v (drop (k + 1) seq) (take len (drop (k + 1) (set buf (k + len) z))) ≡ coreEncrypt boxes a w v (drop k seq) (take len (drop k buf))
   unfolding coreEncrypt forwardLayer
@@ -88,7 +88,7 @@ fronted (suc m) k buf z p h =
     ∙ ap (λ l. z ∷ l) (sym (ap (λ n. take n (take (suc m) (drop (k + 1) buf))) one ∙ take-take m (suc m) (drop (k + 1) buf) (omega arith)))
 
 module _ (inverses : List (List ℕ)) (a len w v : ℕ) (near : Near len w v) where
-  pub decrypt-more : (seq buf code : List ℕ) (k z : ℕ) → k < length seq → length buf ≡ length seq + len
+  pub decrypt-more : (seq buf code : List ℕ) (k z : ℕ) → k < length seq → length seq + len ≤ length buf
       → z ≡ minus a (image inverses (getD seq k 0) (more a w (image inverses (getD seq k 0) (getD buf (k + len) 0)) (getD buf (k + w) 0))) (getD buf (k + (len - v)) 0)
       → take len (drop (k + 1) buf) ≡ coreDecrypt inverses a w v (drop (k + 1) seq) code
       → take len (drop k (set buf k z)) ≡ coreDecrypt inverses a w v (drop k seq) code
@@ -117,7 +117,7 @@ module _ (inverses : List (List ℕ)) (a len w v : ℕ) (near : Near len w v) wh
       ∙ (ap (backwardLayer inverses a w v i) inv ∙ ap (λ l. coreDecrypt inverses a w v l code) (sym (drop-more seq k 0 hk)))))
 
   -- the same from k to k - 1
-  pub decrypt-down : (seq buf code : List ℕ) (k z : ℕ) → 0 < k → k ≤ length seq → length buf ≡ length seq + len
+  pub decrypt-down : (seq buf code : List ℕ) (k z : ℕ) → 0 < k → k ≤ length seq → length seq + len ≤ length buf
       → z ≡ minus a (image inverses (getD seq (k - 1) 0) (more a w (image inverses (getD seq (k - 1) 0) (getD buf (k - 1 + len) 0)) (getD buf (k - 1 + w) 0))) (getD buf (k - 1 + (len - v)) 0)
       → take len (drop k buf) ≡ coreDecrypt inverses a w v (drop k seq) code
       → take len (drop (k - 1) (set buf (k - 1) z)) ≡ coreDecrypt inverses a w v (drop (k - 1) seq) code

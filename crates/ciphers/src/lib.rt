@@ -1,4 +1,6 @@
 // Ciphers over formats: what each promises, and the ciphers themselves.
 pub mod checks;
 pub mod cipher;
+mod core;
+pub mod fast;
 mod window;

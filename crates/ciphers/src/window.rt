@@ -19,7 +19,7 @@ pub(crate) fn encrypt(
 )
     requires table { ⌜ Reads radix (now table) ⌝ }
     requires near { ⌜ Near len w v ⌝ ∗ ⌜ len ≤ 32 ⌝ }
-    requires room { ⌜ length (now window) ≡ length (now indices) + len ⌝ ∗ ⌜ length (now indices) ≤ 2048 ⌝ }
+    requires room { ⌜ length (now indices) + len ≤ length (now window) ⌝ ∗ ⌜ length (now indices) ≤ 2048 ⌝ }
     requires symbols { ⌜ All (λ x. x < radix) (now window) ⌝ }
     ensures { λ _. ⌜ take len (drop (length (now (indices .entry))) (now (window .exit))) ≡ coreEncrypt (rowsOf radix 256 (now (table .entry))) radix w v (now (indices .entry)) (take len (now (window .entry))) ⌝ }
 {
@@ -49,7 +49,7 @@ pub(crate) fn decrypt(
 )
     requires table { ⌜ Reads radix (now table) ⌝ }
     requires near { ⌜ Near len w v ⌝ ∗ ⌜ len ≤ 32 ⌝ }
-    requires room { ⌜ length (now window) ≡ length (now indices) + len ⌝ ∗ ⌜ length (now indices) ≤ 2048 ⌝ }
+    requires room { ⌜ length (now indices) + len ≤ length (now window) ⌝ ∗ ⌜ length (now indices) ≤ 2048 ⌝ }
     requires symbols { ⌜ All (λ x. x < radix) (now window) ⌝ }
     ensures { λ _. ⌜ take len (now (window .exit)) ≡ coreDecrypt (rowsOf radix 256 (now (table .entry))) radix w v (now (indices .entry)) (take len (drop (length (now (indices .entry))) (now (window .entry)))) ⌝ }
 {

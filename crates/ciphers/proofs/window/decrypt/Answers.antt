@@ -25,7 +25,7 @@ pub loop-k-again : need.loop-k-again
 loop-k-again c = (
   all-set (λ (x : ℕ). x < c .args .radix) (c .loop-k .window) (c .loop-k .k - 1) (c .backward-symbol-z .result) (c .backward-symbol-z .ensures .small) (c .loop-k .inv .0),
   omega (arith, c .loop-k .inv .1),
-  decrypt-down (rowsOf (c .args .radix) 256 (c .args .table .now)) (c .args .radix) (c .args .len) (c .args .w) (c .args .v) (c .pre .near .0) (c .args .indices .now) (c .loop-k .window) _ (c .loop-k .k) (c .backward-symbol-z .result) (c .loop-k-test .taken) (c .loop-k .inv .1) (c .loop-k .kept .window ∙ c .pre .room .0) (c .backward-symbol-z .ensures .value) (c .loop-k .inv .2),
+  decrypt-down (rowsOf (c .args .radix) 256 (c .args .table .now)) (c .args .radix) (c .args .len) (c .args .w) (c .args .v) (c .pre .near .0) (c .args .indices .now) (c .loop-k .window) _ (c .loop-k .k) (c .backward-symbol-z .result) (c .loop-k-test .taken) (c .loop-k .inv .1) (omega (arith, c .loop-k .kept .window, c .pre .room .0)) (c .backward-symbol-z .ensures .value) (c .loop-k .inv .2),
 )
 
 pub returns : need.returns

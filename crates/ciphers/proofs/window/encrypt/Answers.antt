@@ -19,7 +19,7 @@ forward-symbol-z-requires c κs =
 pub loop-k-again : need.loop-k-again
 loop-k-again c = (
   all-set (λ (x : ℕ). x < c .args .radix) (c .loop-k .window) (c .loop-k .k + c .args .len) (c .forward-symbol-z .result) (c .forward-symbol-z .ensures .small) (c .loop-k .inv .0),
-  encrypt-more (rowsOf (c .args .radix) 256 (c .args .table .now)) (c .args .radix) (c .args .len) (c .args .w) (c .args .v) (c .pre .near .0) (c .args .indices .now) (c .loop-k .window) (c .loop-k .k) (c .forward-symbol-z .result) (c .loop-k-test .taken) (c .loop-k .kept .window ∙ c .pre .room .0) (c .forward-symbol-z .ensures .value) ∙ c .loop-k .inv .1,
+  encrypt-more (rowsOf (c .args .radix) 256 (c .args .table .now)) (c .args .radix) (c .args .len) (c .args .w) (c .args .v) (c .pre .near .0) (c .args .indices .now) (c .loop-k .window) (c .loop-k .k) (c .forward-symbol-z .result) (c .loop-k-test .taken) (omega (arith, c .loop-k .kept .window, c .pre .room .0)) (c .forward-symbol-z .ensures .value) ∙ c .loop-k .inv .1,
 )
 
 pub returns : need.returns
