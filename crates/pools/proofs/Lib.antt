@@ -1,3 +1,4 @@
+pub mod File
 pub mod Fills
 pub mod Makings
 pub mod Rows

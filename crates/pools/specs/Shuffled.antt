@@ -2,10 +2,8 @@
 --   nextBox    a box, and then the boxes after it
 --   makings    boxes of a radix, from one place on
 --   pooling    what it is to make a pool from coins
---   MadeRows   a call makes the boxes in tables
 use mathlib.Core.Bool.{cond, _&&_}
 use mathlib.Core.List.{List, [], _∷_}
-use mathlib.Core.Path.{_≡_}
 use Prim.Native.Nat.{ℕ, zero, suc, _+_}
 use lib.Dec.{leb}
 use Rattle.std.specs.declared.result.Result.{Result}
@@ -33,7 +31,3 @@ makings a n (suc more) coins =
 
 unfoldable pub pooling : ℕ → List ℕ → Outcome (List (List ℕ))
 pooling a coins = cond (leb 4 a && leb a 64) (makings a 0 256 coins) (refusal (own Range))
-
-abbrev pub MadeRows : List (List ℕ) → Outcome (List (List ℕ)) → Result (Unit {0}) Fault → Type 0
-MadeRows rows o (Ok _) = o .answer ≡ Ok rows
-MadeRows rows o (Err f) = o .answer ≡ Err f

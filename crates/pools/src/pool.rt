@@ -8,6 +8,7 @@ ghost use Rattle.coins.specs.Sboxes.{entries, inverses};
 ghost use Rattle.pools.specs.Rows.{rowsOf, flat, written, Inside, Undone};
 use coins::sbox::Sbox;
 
+mod file;
 mod read;
 mod shuffle;
 

@@ -6,8 +6,8 @@ ghost use Rattle.std.specs.Vec.{made};
 ghost use Rattle.std.specs.declared.result.Result.the-variants.{Ok};
 ghost use Rattle.coins.specs.Coins.{after};
 ghost use Rattle.pools.specs.Pools.{held};
-ghost use Rattle.pools.specs.Rows.{rowsOf, Filled};
-ghost use Rattle.pools.specs.Shuffled.{makings, pooling, MadeRows};
+ghost use Rattle.pools.specs.Rows.{rowsOf, Filled, Answered};
+ghost use Rattle.pools.specs.Shuffled.{makings, pooling};
 ghost use Rattle.pools.specs.declared.pool.Origin.the-variants.{Given};
 use crate::pool::Origin;
 use crate::pool::Pool;
@@ -60,7 +60,7 @@ fn shuffle_rows<C: Coins>(
 ) -> Result<(), Fault>
     requires most { ⌜ radix ≤ 64 ⌝ }
     requires whole { ⌜ length (now forward) ≡ 32768 ⌝ ∗ ⌜ length (now inverse) ≡ 32768 ⌝ }
-    ensures value { λ r. ⌜ MadeRows (rowsOf radix 256 (now (forward .exit))) (makings radix 0 256 (waiting (now (coins .entry)))) r ⌝ }
+    ensures value { λ r. ⌜ Answered (rowsOf radix 256 (now (forward .exit))) (makings radix 0 256 (waiting (now (coins .entry))) .answer) r ⌝ }
     ensures after { λ _. ⌜ waiting (now (coins .exit)) ≡ after (makings radix 0 256 (waiting (now (coins .entry)))) (waiting (now (coins .entry))) ⌝ }
     ensures filled { λ r. ⌜ made r (λ _. Filled radix 256 (now (forward .exit)) (now (inverse .exit))) ⌝ }
 {
