@@ -57,6 +57,7 @@ fn invert(radix: u16, table: &[u16], inverse: &mut [u16])
     ensures back { λ _. ⌜ Undoes radix (now (inverse .exit)) (now (table .entry)) ⌝ }
 {
     for x in 0..radix {
-        inverse[table[x as usize] as usize] = x;
+        let (from, to) = (x, table[x as usize]);
+        inverse[to as usize] = from;
     }
 }
