@@ -8,7 +8,7 @@
 --   tryAt      the number that the coins of a try form
 --   firstFrom  the first accepted try
 --   drawing    what it is to draw below a bound
-use mathlib.Core.Bool.{Bool, true, false, cond, _&&_}
+use mathlib.Core.Bool.{Bool, cond, _&&_}
 use mathlib.Core.List.{List}
 use Prim.Native.Nat.{ℕ, zero, suc, _+_, _*_, _/_, _%_, _^_}
 use lib.Dec.{leb, ltb}

@@ -9,7 +9,7 @@ use Rattle.std.specs.shelf.Lists.{All}
 use Rattle.std.proofs.shelf.Bits.{mul-le}
 use Rattle.std.proofs.shelf.Elements.{all-getD}
 use Rattle.std.proofs.shelf.Lists.{length-append, getD-append-left, getD-append-add, getD-take, take-all}
-use Rattle.coins.specs.Boxes.{Permutation, Undoes}
+use Rattle.coins.specs.Boxes.{Permutation}
 use Rattle.coins.proofs.Boxes.{undone-permutes}
 use Rattle.pools.specs.declared.pool.Pool.{Pool}
 use Rattle.pools.specs.Pools.{boxes, inverses, StandsTwice, Holds}

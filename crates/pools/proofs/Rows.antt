@@ -13,7 +13,7 @@ use Rattle.std.proofs.shelf.Elements.{all-push, all-from-getD}
 use Rattle.std.proofs.shelf.Lists.{append-assoc, append-nil, length-append, length-drop, length-take-le, length-push, take-at, drop-at, getD-append-left, getD-append-right, getD-push, getD-set-same, getD-set-other, length-set, ext-getD, drop-drop}
 use Rattle.std.proofs.shelf.Tests.{cases-lt}
 use Rattle.coins.specs.Boxes.{Undoes}
-use Rattle.pools.specs.Rows.{rowsOf, flat, written, Inside, Undone, Filled}
+use Rattle.pools.specs.Rows.{rowsOf, flat, written, Filled}
 
 pub length-rows : (a m : ℕ) (table : List ℕ) → length (rowsOf a m table) ≡ m
 unfolding rowsOf

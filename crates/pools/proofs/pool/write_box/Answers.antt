@@ -2,7 +2,6 @@ use mathlib.Core.Path.{_≡_, ap, _∙_}
 use native.Mathlib.Omega.{arith}
 use lib.ListN.{length}
 use Rattle.std.proofs.shelf.Lists.{length-take-le}
-use Rattle.coins.specs.Sboxes.{entries, inverses}
 use Rattle.pools.specs.Rows.{written}
 use Rattle.pools.proofs.Rows.{entries-bytes}
 use Rattle.pools.proofs.pool.write_box.Needs as need

@@ -1,9 +1,7 @@
 use Prim.Native.Nat.{_<_}
-use mathlib.Core.Path.{_≡_, subst}
 use native.Mathlib.Omega.{arith}
-use lib.ListN.{length, getD}
 use Rattle.std.proofs.shelf.Elements.{all-getD}
-use Rattle.pools.proofs.Rows.{Twice, twice-more, twice-all}
+use Rattle.pools.proofs.Rows.{twice-more, twice-all}
 use Rattle.pools.proofs.pool.write_twice.Needs as need
 
 pub cast-row : need.cast-row

@@ -1,6 +1,5 @@
-use mathlib.Core.Path.{_≡_, sym, ap, _∙_}
+use mathlib.Core.Path.{sym, ap, _∙_}
 use mathlib.Core.Logic.{⊎-elim}
-use native.Mathlib.Omega.{arith}
 use lib.ListN.{take}
 use Rattle.std.specs.declared.result.Result.the-variants.{Ok, Err}
 use Rattle.coins.specs.Coins.{counted, withCount}

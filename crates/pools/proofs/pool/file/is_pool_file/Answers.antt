@@ -1,6 +1,6 @@
-use mathlib.Core.Path.{_≡_, sym, ap, _∙_}
+use mathlib.Core.Path.{sym}
 use native.Mathlib.Omega.{arith}
-use Rattle.pools.proofs.File.{Form, form-size, form-false}
+use Rattle.pools.proofs.File.{form-size, form-false}
 use Rattle.pools.proofs.pool.file.is_pool_file.Needs as need
 use Rattle.pools.proofs.pool.file.is_pool_file.Needs.{then-bytes·by·then-bytes, then-bytes·by·else-bytes·then-bytes-2, then-bytes·by·else-bytes·else-bytes-2·then-bytes-3, then-bytes-4·by·then-bytes-4, then-bytes-4·by·else-bytes-4·then-bytes-5, then-bytes-lt4·by·then-bytes-lt4, then-bytes-lt4·by·else-bytes-lt4·then-bytes-gt64}
 

@@ -1,11 +1,10 @@
 use mathlib.Core.Path.{_≡_, sym, ap, subst, _∙_}
 use Prim.Native.Nat.{ℕ}
 use native.Mathlib.Omega.{arith}
-use lib.ListN.{length}
 use Rattle.std.specs.declared.result.Result.the-variants.{Ok, Err}
-use Rattle.formats.specs.Faults.{placed, deeper}
+use Rattle.formats.specs.Faults.{placed}
 use Rattle.coins.specs.Boxes.{making}
-use Rattle.coins.specs.Coins.{counted, after}
+use Rattle.coins.specs.Coins.{after}
 use Rattle.coins.specs.Sboxes.{entries}
 use Rattle.coins.proofs.Swaps.{counted-ok, counted-err}
 use Rattle.coins.proofs.Takes.{leaves}
