@@ -55,9 +55,6 @@ flat-push (s ∷ rs) r = ap (λ l. (s ++ s) ++ l) (flat-push rs r) ∙ sym (appe
 -- one row more
 module _ (a m : ℕ) (table row : List ℕ) (long : length row ≡ a) (room : m * (a + a) + (a + a) ≤ length table)
     (doubled : take (m * (a + a)) table ≡ flat (rowsOf a m table)) where
-  rows : List (List ℕ)
-  rows = rowsOf a m table
-
   all-long : All (λ r. length r ≡ a) (rowsOf a m table ++ row ∷ [])
   all-long = all-push (λ r. length r ≡ a) (rowsOf a m table) row (rows-long a m table (omega arith)) long
 
