@@ -4,7 +4,7 @@ ghost use mathlib.Core.List.{_++_};
 ghost use Prim.Native.Nat.{_+_, _*_, _≤_, _<_};
 ghost use lib.ListN.{length, take};
 ghost use Rattle.std.specs.shelf.Lists.{All};
-ghost use Rattle.coins.specs.Sboxes.{entries, inverses};
+ghost use Rattle.coins.specs.Sboxes.{entries as entriesOf, inverses as inversesOf};
 ghost use Rattle.pools.specs.Rows.{rowsOf, flat, written, Inside, Undone};
 use coins::sbox::Sbox;
 
@@ -46,8 +46,8 @@ fn write_box(n: usize, sbox: &Sbox, forward: &mut [u8], inverse: &mut [u8])
     requires row { ⌜ n < 256 ⌝ }
     requires most { ⌜ now sbox .radix ≤ 64 ⌝ }
     requires whole { ⌜ length (now forward) ≡ 32768 ⌝ ∗ ⌜ length (now inverse) ≡ 32768 ⌝ }
-    ensures forward { λ _. ⌜ now (forward .exit) ≡ written (now (sbox .entry) .radix) n (now (forward .entry)) (entries (now (sbox .entry))) ⌝ }
-    ensures inverse { λ _. ⌜ now (inverse .exit) ≡ written (now (sbox .entry) .radix) n (now (inverse .entry)) (inverses (now (sbox .entry))) ⌝ }
+    ensures forward { λ _. ⌜ now (forward .exit) ≡ written (now (sbox .entry) .radix) n (now (forward .entry)) (entriesOf (now (sbox .entry))) ⌝ }
+    ensures inverse { λ _. ⌜ now (inverse .exit) ≡ written (now (sbox .entry) .radix) n (now (inverse .entry)) (inversesOf (now (sbox .entry))) ⌝ }
 {
     write_row(n, sbox.images(), forward);
     write_row(n, sbox.preimages(), inverse);
