@@ -1,14 +1,13 @@
 -- Draws: one try after the other. Assumes nothing.
 use mathlib.Core.Path.{_≡_, refl, sym, ap, subst, _∙_}
-use mathlib.Core.Bool.{true, false, cond, _&&_}
+use mathlib.Core.Bool.{true, false, _&&_}
 use mathlib.Core.Logic.{⊎-elim}
 use mathlib.Core.List.{List}
 use Prim.Native.Nat.{ℕ, zero, suc, _+_, _-_, _*_, _/_, _%_, _^_, _<_, _≤_, zero-le}
 use native.Mathlib.Nat.{zero-mul, suc-mul, sub-zero, mul-comm, div-mul-le-self, mul-le-mul-right}
-use native.Mathlib.Numerals.{add-one}
 use native.Mathlib.Omega.{arith}
 use lib.Arith.{digits-lt}
-use lib.Dec.{leb, ltb}
+use lib.Dec.{leb}
 use lib.ListN.{length, take, drop}
 use lib.Pow.{pow-pos, pow-mono}
 use Rattle.std.specs.declared.option.Option.{Option}
@@ -16,7 +15,7 @@ use Rattle.std.specs.declared.option.Option.the-variants.{Some, None}
 use Rattle.std.specs.declared.result.Result.{Result}
 use Rattle.std.specs.declared.result.Result.the-variants.{Ok, Err}
 use Rattle.std.specs.shelf.Lists.{All}
-use Rattle.std.proofs.shelf.Bits.{div-below, le-div, one-shl}
+use Rattle.std.proofs.shelf.Bits.{div-below, le-div}
 use Rattle.std.proofs.shelf.Elements.{all-take, all-drop}
 use Rattle.std.proofs.shelf.Lists.{drop-drop, length-drop, length-take, length-take-le}
 use Rattle.std.proofs.shelf.Tests.{cond-true, cond-false, le-leb, lt-leb, le-ltb, lt-ltb, and-from, and-left, and-right, cases-lt, cases-bool}
@@ -24,7 +23,7 @@ use Rattle.formats.specs.declared.fault.Cause.the-variants.{Range, CoinsShort}
 use Rattle.formats.specs.declared.fault.Fault.{Fault}
 use Rattle.formats.specs.Faults.{own, deeper}
 use Rattle.coins.specs.Coins.{number, Outcome, refusal, taking, after, Bits}
-use Rattle.coins.specs.Draws.{width, givenBy, rejects, share, tries, tryAt, firstFrom, drawnAt, drawing}
+use Rattle.coins.specs.Draws.{width, givenBy, rejects, share, tries, tryAt, firstFrom, drawnAt, drawing, FirstGives}
 use Rattle.coins.proofs.Bits.{number-below}
 use Rattle.coins.proofs.Takes.{leaves, taken-good, taken-short}
 use Rattle.coins.proofs.Widths.{width-least, width-most}
@@ -301,10 +300,6 @@ drawn-within k coins =
     (cases-lt 4096 k))
     (cases-lt k 2)
 
--- the power that the code holds
-pub power-is : (k count : ℕ) → count ≡ width k → k ≤ 4096 → 1 * 2 ^ count % 4294967296 ≡ 2 ^ width k
-power-is k count e h = let w = width-most k h in one-shl count 32 (omega arith) ∙ ap (λ n. 2 ^ n) e
-
 -- what a try gives, in words of what the code holds for the bound, the try and the power
 module _ (k v b a whole : ℕ) (for-bound : b ≡ k) (for-try : a ≡ v) (for-power : whole ≡ 2 ^ width k) where
   at-code : (f : ℕ → ℕ → ℕ → ℕ) → f b a whole ≡ f k v (2 ^ width k)
@@ -325,3 +320,33 @@ module _ (k v b a whole : ℕ) (for-bound : b ≡ k) (for-try : a ≡ v) (for-po
   given-below l h =
       let e = at-code (λ y x w. x * y / w) in
       rw e (share-below k v l h)
+
+-- ---- the first accepted try
+first-is : (k : ℕ) (coins : List ℕ) (n from more : ℕ) → from ≤ n → n < from + more → ((i : ℕ) → from ≤ i → i < n → rejects k (tryAt k coins i) ≡ true) →
+    rejects k (tryAt k coins n) ≡ false → firstFrom k coins from more ≡ Some n
+first-is k coins n from zero l h passed accepted = absurd (omega arith)
+first-is k coins n from (suc more) l h passed accepted =
+    ⊎-elim
+    (λ m.
+    cond-true (rejects k (tryAt k coins from)) (firstFrom k coins (suc from) more) (Some from) (passed from (omega arith) m) ∙
+    first-is k coins n (suc from) more m (omega arith) (λ i j p. passed i (omega arith) p) accepted)
+    (λ m.
+    let e : from ≡ n = omega arith in
+    cond-false (rejects k (tryAt k coins from)) (firstFrom k coins (suc from) more) (Some from) (ap (λ i. rejects k (tryAt k coins i)) e ∙ accepted) ∙ ap Some e)
+    (cases-lt from n)
+
+first-none : (k : ℕ) (coins : List ℕ) (from more : ℕ) → ((i : ℕ) → i < from + more → rejects k (tryAt k coins i) ≡ true) → firstFrom k coins from more ≡ None
+first-none k coins from zero rejected = refl
+first-none k coins from (suc more) rejected =
+    cond-true (rejects k (tryAt k coins from)) (firstFrom k coins (suc from) more) (Some from) (rejected from (omega arith)) ∙
+    first-none k coins (suc from) more (λ i h. rejected i (omega arith))
+
+pub first-gives : FirstGives
+first-gives k coins l h =
+    record {
+      given = λ n f.
+          draw-within k coins l h ∙
+          ap (drawnAt k coins) (first-is k coins n 0 (tries k coins) zero-le (omega (arith, f .whole)) (λ i _ p. f .passed i p) (f .accepted));
+      short = λ rejected.
+          draw-within k coins l h ∙ ap (drawnAt k coins) (first-none k coins 0 (tries k coins) (λ i p. rejected i (omega arith)));
+    }

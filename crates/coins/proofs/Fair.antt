@@ -1,18 +1,17 @@
 -- Fair: the accepted tries that give a number lie in a row, and each row is as long as any other. Assumes nothing.
-use mathlib.Core.Path.{_≡_, refl, sym, ap, _∙_}
+use mathlib.Core.Path.{_≡_, sym, ap, _∙_}
 use mathlib.Core.Bool.{Bool, true, false, cond}
 use mathlib.Core.Logic.{⊎-elim}
 use Prim.Native.Nat.{ℕ, zero, suc, _+_, _-_, _*_, _/_, _%_, _^_, _<_, _≤_, min}
 use native.Mathlib.Nat.{add-mul, suc-mul, mul-comm, div-add-mod', div-mul-le-self, mod-lt, div-eq-of-lt-le, mul-le-mul-right}
 use native.Mathlib.Omega.{arith}
-use lib.Dec.{ltb}
 use lib.Pow.{pow-pos}
 use Rattle.std.specs.declared.option.Option.the-variants.{Some, None}
 use Rattle.std.proofs.shelf.Bits.{le-div}
 use Rattle.std.proofs.shelf.Tests.{cond-true, cond-false, lt-ltb, le-ltb, ne-eqb, eq-eqb, cases-lt}
 use Rattle.coins.specs.Draws.{width, rejects, share, givenBy}
-use Rattle.coins.specs.Fair.{passing, isNumber, EqualShares, Least, Fair}
-use Rattle.coins.proofs.Widths.{log-reaches, log-is-least, width-reaches}
+use Rattle.coins.specs.Fair.{passing, isNumber, EqualShares, Fair}
+use Rattle.coins.proofs.Widths.{log-reaches, log-is-least}
 
 -- a test that is passed by a row of numbers is passed by as many as the row has
 passing-row : (test : ℕ → Bool) (lo hi : ℕ) → lo ≤ hi →

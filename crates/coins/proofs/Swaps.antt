@@ -17,7 +17,7 @@ use Rattle.std.proofs.shelf.Tests.{cond-true, cond-false, le-leb, lt-leb, and-f
 use Rattle.formats.specs.declared.fault.Cause.the-variants.{Range}
 use Rattle.formats.specs.declared.fault.Fault.{Fault}
 use Rattle.formats.specs.Faults.{own, deeper}
-use Rattle.coins.specs.Boxes.{swapped, follow, andThen, swaps, making}
+use Rattle.coins.specs.Boxes.{swapped, andThen, swaps, making}
 use Rattle.coins.specs.Coins.{Bits, Outcome, refusal, after, withCount, counted}
 use Rattle.coins.specs.Draws.{drawing}
 use Rattle.coins.proofs.Draws.{cong-outcome, drawn-within}

@@ -1,7 +1,7 @@
 -- Widths: how many coins a try takes. Assumes nothing.
 use mathlib.Core.Path.{_≡_, refl, sym, ap, _∙_}
 use mathlib.Core.Logic.{⊎-elim}
-use Prim.Native.Nat.{ℕ, zero, suc, _+_, _-_, _*_, _^_, _<_, _≤_}
+use Prim.Native.Nat.{ℕ, zero, suc, _+_, _-_, _^_, _<_, _≤_}
 use native.Mathlib.Nat.{pow-suc}
 use native.Mathlib.Omega.{arith}
 use lib.Dec.{leb, lit<}
@@ -67,10 +67,6 @@ width-least k = omega arith
 pub width-most : (k : ℕ) → k ≤ 4096 → width k ≤ 16
 unfolding width
 width-most k h = omega (arith, log-is-least k 12 h)
-
-pub width-reaches : (k : ℕ) → k ≤ 2 ^ width k
-unfolding width
-width-reaches k = let p = log-reaches k in omega (arith, pow-mono {i = log2Up k} {j = log2Up k + 4} (omega arith))
 
 -- what a search up to the twelfth power has found
 pub width-here : (k e : ℕ) → leastFrom k e (k - e) ≡ log2Up k → k ≤ 2 ^ e → e + 4 ≡ width k

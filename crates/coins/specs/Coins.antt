@@ -7,7 +7,7 @@
 --   after     the coins that wait then
 --   counted   the call's answer, with how many coins it took where it is good
 --   taking    what it is to take a count of coins
-use mathlib.Core.Bool.{Bool, true, false, cond, _&&_}
+use mathlib.Core.Bool.{cond, _&&_}
 use mathlib.Core.List.{List, [], _∷_, _++_}
 use Prim.Native.Nat.{ℕ, _+_, _*_, _/_, _%_, _^_, _<_}
 use lib.Dec.{leb}

@@ -8,9 +8,12 @@
 --   tryAt      the number that the coins of a try form
 --   firstFrom  the first accepted try
 --   drawing    what it is to draw below a bound
+--   FirstAccepted   a try is the first that is accepted
+--   FirstGives      the first accepted try gives the number
+use mathlib.Core.Path.{_≡_}
 use mathlib.Core.Bool.{Bool, true, false, cond, _&&_}
 use mathlib.Core.List.{List}
-use Prim.Native.Nat.{ℕ, zero, suc, _+_, _*_, _/_, _%_, _^_}
+use Prim.Native.Nat.{ℕ, zero, suc, _+_, _*_, _/_, _%_, _^_, _<_, _≤_}
 use lib.Dec.{leb, ltb}
 use lib.ListN.{length, take, drop}
 use Rattle.std.specs.declared.option.Option.{Option}
@@ -60,3 +63,20 @@ drawnAt k coins None = record { answer = Err (deeper (own CoinsShort)); gone = t
 unfoldable pub drawing : ℕ → List ℕ → Outcome ℕ
 drawing k coins =
     cond (leb 2 k && leb k 4096) (drawnAt k coins (firstFrom k coins 0 (tries k coins))) (refusal (own Range))
+
+-- the n-th try is the first that is accepted
+pub record FirstAccepted (k : ℕ) (coins : List ℕ) (n : ℕ) : Type 0 where
+  pub whole : n < tries k coins
+  pub passed : (i : ℕ) → i < n → rejects k (tryAt k coins i) ≡ true
+  pub accepted : rejects k (tryAt k coins n) ≡ false
+
+-- what a draw comes to, in words of its tries
+pub record Draws (k : ℕ) (coins : List ℕ) : Type 0 where
+  -- the first accepted try gives the number, and the coins of all tries up to it are gone
+  pub given : (n : ℕ) → FirstAccepted k coins n → drawing k coins ≡ record { answer = Ok (share k (tryAt k coins n)); gone = suc n * width k }
+  -- where all tries are rejected, their coins are gone, and too few are left for another
+  pub short : ((i : ℕ) → i < tries k coins → rejects k (tryAt k coins i) ≡ true) →
+      drawing k coins ≡ record { answer = Err (deeper (own CoinsShort)); gone = tries k coins * width k }
+
+abbrev pub FirstGives : Type 0
+FirstGives = (k : ℕ) (coins : List ℕ) → 2 ≤ k → k ≤ 4096 → Draws k coins

@@ -2,7 +2,15 @@
 ghost use mathlib.Core.List.{List};
 ghost use Prim.Native.Nat.{ℕ};
 ghost use Rattle.coins.specs.Boxes.{Shuffles, Tells};
+ghost use Rattle.coins.specs.Draws.{FirstGives};
 ghost use Rattle.coins.specs.Fair.{Fair};
+
+// The first try that a draw accepts gives its number.
+pub fn first_accepted_try_gives() -> u8
+    ensures { λ _. ⌜ FirstGives ⌝ }
+{
+    0
+}
 
 // A draw is fair: the tries that it accepts are shared out equally among the numbers below its bound.
 pub fn draws_are_fair() -> u8

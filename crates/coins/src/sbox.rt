@@ -24,6 +24,13 @@ pub struct Sbox {
 }
 
 impl Sbox {
+    // How many numbers the box permutes.
+    pub fn radix(&self) -> u16
+        ensures { λ r. ⌜ r ≡ now (self .entry) .radix ⌝ }
+    {
+        self.radix
+    }
+
     // The box of a table.
     fn of(radix: u16, forward: [u16; 4096]) -> Sbox
         requires least { ⌜ 2 ≤ radix ⌝ }
@@ -50,6 +57,7 @@ fn invert(radix: u16, table: &[u16], inverse: &mut [u16])
     ensures back { λ _. ⌜ Undoes radix (now (inverse .exit)) (now (table .entry)) ⌝ }
 {
     for x in 0..radix {
-        inverse[table[x as usize] as usize] = x;
+        let (from, to) = (x, table[x as usize]);
+        inverse[to as usize] = from;
     }
 }

@@ -19,6 +19,7 @@ impl Sbox {
     pub fn shuffled<C: Coins>(coins: &mut C, radix: u16) -> Result<(Sbox, u128), Fault>
         ensures value { λ r. ⌜ boxed r ≡ counted (making radix (waiting (now (coins .entry)))) ⌝ }
         ensures after { λ _. ⌜ waiting (now (coins .exit)) ≡ after (making radix (waiting (now (coins .entry)))) (waiting (now (coins .entry))) ⌝ }
+        ensures radix { λ r. ⌜ made r (λ drawn. drawn .0 .radix ≡ radix) ⌝ }
     {
         if radix < 2 || radix > 4096 {
             return Err(Fault::own(Cause::Range));

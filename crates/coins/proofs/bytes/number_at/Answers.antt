@@ -1,7 +1,5 @@
-use mathlib.Core.Path.{_∙_, sym}
-use Prim.Native.Nat.{_+_, _*_, _<_}
+use Prim.Native.Nat.{_+_}
 use native.Mathlib.Omega.{arith}
-use lib.ListN.{length}
 use Rattle.coins.proofs.Bits.{number-more, number-room, bit-below}
 use Rattle.coins.proofs.bytes.number_at.Needs as need
 

@@ -5,8 +5,8 @@ use lib.ListN.{getD}
 use Rattle.coins.proofs.Boxes.{front-inside, invert-more, inverse-there, inverse-back}
 use Rattle.coins.proofs.sbox.invert.Needs as need
 
-pub index-inverse-table : need.index-inverse-table
-index-inverse-table c =
+pub index-inverse-to : need.index-inverse-to
+index-inverse-to c =
     let h = front-inside (c .args .radix) (c .args .table .now) (c .pre .permutes) (c .loop-x .x) (omega arith) in omega arith
 
 pub loop-x-again : need.loop-x-again

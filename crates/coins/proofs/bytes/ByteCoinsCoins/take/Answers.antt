@@ -1,4 +1,4 @@
-use mathlib.Core.Path.{_≡_, refl, sym, ap, _∙_}
+use mathlib.Core.Path.{_≡_, sym, ap, _∙_}
 use mathlib.Core.Logic.{⊎-elim}
 use Prim.Native.Nat.{_+_, _≤_, _<_}
 use native.Mathlib.Omega.{arith}
@@ -7,7 +7,7 @@ use Rattle.std.specs.declared.result.Result.the-variants.{Ok, Err}
 use Rattle.std.proofs.shelf.Lists.{drop-drop, length-drop}
 use Rattle.formats.specs.declared.fault.Cause.the-variants.{Range}
 use Rattle.formats.specs.Faults.{own}
-use Rattle.coins.specs.Coins.{Outcome, refusal, bitsOf, taking, after}
+use Rattle.coins.specs.Coins.{refusal, bitsOf, taking, after}
 use Rattle.coins.proofs.Bits.{length-bitsOf}
 use Rattle.coins.proofs.Takes.{take-none, take-many, take-short, take-good, answers, leaves, byte-coins-bits}
 use Rattle.coins.proofs.bytes.ByteCoinsCoins.take.Needs as need

@@ -1,6 +1,4 @@
-use Prim.Native.Nat.{_<_}
 use mathlib.Core.Path.{_∙_}
-use mathlib.Core.List.{map}
 use native.Mathlib.Omega.{arith}
 use lib.ListN.{length}
 use Rattle.std.proofs.shelf.Counted.{fill-by-all}
