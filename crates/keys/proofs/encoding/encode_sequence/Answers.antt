@@ -4,12 +4,13 @@ use Prim.Native.Nat.{ℕ, _+_, _-_}
 use native.Mathlib.Omega.{arith}
 use lib.ListN.{length}
 use Rattle.keys.specs.Distances.{wOf, w′Of}
-use Rattle.keys.specs.Encodings.{two, opening}
+use Rattle.keys.specs.Encodings.{two, opening, encode}
 use Rattle.keys.specs.Labels.{labelOf}
 use Rattle.keys.proofs.Pieces.{three-pieces}
 use Rattle.keys.proofs.encoding.encode_sequence.Needs as need
 
 pub returns : need.returns
+unfolding encode
 returns c =
     let run = c .args .run .now in
     let n = length run in
