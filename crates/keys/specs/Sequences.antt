@@ -29,7 +29,7 @@ use Rattle.keys.specs.Derived.{derivedKey}
 use Rattle.keys.specs.Distances.{wOf, w′Of}
 use Rattle.keys.specs.Encodings.{Purpose, ofSequence}
 
-abbrev pub sequenceList : Sequence → ℕ → ℕ → ℕ → List ℕ → Purpose
+unfoldable pub sequenceList : Sequence → ℕ → ℕ → ℕ → List ℕ → Purpose
 sequenceList s radix len layers run =
     ofSequence s radix (record { len = len; layers = layers; w = wOf len; w′ = w′Of len; run = run })
 

@@ -1,5 +1,5 @@
 use Rattle.keys.specs.Encodings.{encode}
-use Rattle.keys.proofs.encoding.encode_pool.Needs as need
+use Rattle.keys.proofs.encoding.writing.encode_pool.Needs as need
 
 pub returns : need.returns
 unfolding encode
