@@ -22,8 +22,7 @@ pub(crate) fn derive_sequence(
     run: &[u8],
     key: &mut [u8; 32],
 )
-    requires len { ⌜ 2 ≤ len ⌝ ∗ ⌜ len ≤ 32 ⌝ }
-    requires run { ⌜ length (now run) ≤ 32 ⌝ }
+    requires { ⌜ length (now run) ≤ 32 ⌝ }
     ensures { λ _. ⌜ now (key .exit) ≡ derivedKey (macKeyOf (now (mac .entry))) (sequenceList sequence radix len layers (now (run .entry))) ⌝ }
 {
     let first = write_sequence(0, sequence, u16::from(radix), len, layers, run);

@@ -43,7 +43,7 @@ pub fn encode_pool(counter: u8, radix: u16) -> [u8; 8]
     opening(counter, Label::FpePool, radix)
 }
 
-// The list of an index sequence whose length and run name are known to be in range.
+// The list of an index sequence whose run name is known to be short enough.
 pub(crate) fn write_sequence(
     counter: u8,
     sequence: Sequence,
@@ -52,8 +52,7 @@ pub(crate) fn write_sequence(
     layers: u16,
     run: &[u8],
 ) -> Encoding
-    requires len { ⌜ 2 ≤ len ⌝ ∗ ⌜ len ≤ 32 ⌝ }
-    requires run { ⌜ length (now run) ≤ 32 ⌝ }
+    requires { ⌜ length (now run) ≤ 32 ⌝ }
     ensures { λ r. ⌜ written r ≡ encode counter (sequenceList sequence radix len layers (now (run .entry))) ⌝ }
 {
     let mut bytes = [0u8; 46];
@@ -87,7 +86,6 @@ fn opening(counter: u8, label: Label, radix: u16) -> [u8; 8]
 
 // What stands between the opening and the run name.
 fn sizes(len: u8, layers: u16, run_len: u8) -> [u8; 6]
-    requires { ⌜ 2 ≤ len ⌝ ∗ ⌜ len ≤ 32 ⌝ }
     ensures { λ r. ⌜ r ≡ len ∷ (two layers ++ wOf len ∷ w′Of len ∷ «run_len» ∷ []) ⌝ }
 {
     let distances = Distances::of(len);

@@ -3,15 +3,11 @@ use lib.ListN.{length}
 use Rattle.std.specs.declared.result.Result.the-variants.{Err}
 use Rattle.block_cipher.specs.MacKey.{macKeyOf}
 use Rattle.keys.specs.Sequences.{firstHalf, startOf, stream, indexSequence}
-use Rattle.keys.proofs.Ranges.{length-in-range, legal-short, refused-range, refused-name, given}
+use Rattle.keys.proofs.Ranges.{legal-short, refused-range, refused-name, given}
 use Rattle.keys.proofs.sequence.index_sequence.Needs as need
 
 pub derive-sequence-requires : need.derive-sequence-requires
-derive-sequence-requires c κs =
-    record {
-      len = length-in-range (c .args .radix) (c .args .len) (length (c .args .indices .now)) (sym (c .is-sized .ensures) ∙ c .if-not-is-sized .left);
-      run = legal-short (c .args .run .now) (sym (c .is-legal .ensures) ∙ c .if-not-is-legal .left);
-    }
+derive-sequence-requires c κs = legal-short (c .args .run .now) (sym (c .is-legal .ensures) ∙ c .if-not-is-legal .left)
 
 pub returns-then-not-is-sized : need.returns-then-not-is-sized
 returns-then-not-is-sized c =
