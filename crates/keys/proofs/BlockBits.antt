@@ -1,42 +1,35 @@
 -- Block bits: the bits of counter blocks, one at a time. Assumes nothing.
 use mathlib.Core.Path.{_≡_, refl, sym, ap, _∙_}
 use mathlib.Core.List.{List, [], _∷_, _++_}
-use mathlib.Core.Logic.{⊎-elim}
-use Prim.Native.Nat.{ℕ, zero, suc, _+_, _-_, _*_, _/_, _%_, _≤_, _<_}
+use Prim.Native.Nat.{ℕ, _+_, _-_, _*_, _/_, _%_, _^_, _≤_, _<_}
 use native.Mathlib.Omega.{arith}
 use lib.ListN.{length, getD, take, drop}
-use Rattle.std.proofs.shelf.Lists.{length-drop, getD-drop, append-assoc, getD-append-left, getD-append-right, drop-more}
-use Rattle.std.proofs.shelf.Tests.{cases-lt}
+use Rattle.std.proofs.shelf.Lists.{length-drop, getD-drop, drop-more}
 use Rattle.block_cipher.specs.Counter.{counterBlock}
-use Rattle.coins.specs.Coins.{Bits, number, byteBits, bitsOf}
-use Rattle.coins.proofs.Bits.{length-bitsOf, bit-below, number-more}
+use Rattle.coins.specs.Coins.{Bits, number, bitsOf}
+use Rattle.coins.proofs.Bits.{length-bitsOf, bits-at, bit-below, number-more}
 use Rattle.coins.proofs.Takes.{byte-coins-bits}
 use Rattle.keys.specs.Sequences.{blocks}
-use Rattle.keys.proofs.Streams.{length-block, length-blocks}
-
-bits-append : (xs ys : List ℕ) → bitsOf (xs ++ ys) ≡ bitsOf xs ++ bitsOf ys
-bits-append [] ys = refl
-bits-append (x ∷ xs) ys = ap (λ l. byteBits x ++ l) (bits-append xs ys) ∙ sym (append-assoc (byteBits x) (bitsOf xs) (bitsOf ys))
+use Rattle.keys.proofs.Streams.{length-block, length-blocks, byte-of-block}
 
 module _ (key iv : List ℕ) where
   pub length-bits : (n : ℕ) → length (bitsOf (blocks key iv n)) ≡ 128 * n
   length-bits n = let a = length-blocks key iv n in let b = length-bitsOf (blocks key iv n) in omega arith
 
   -- each bit of the blocks is a bit of one block
-  pub bit-of-block : (n t : ℕ) → t < 128 * n → getD (bitsOf (blocks key iv n)) t 0 ≡ getD (bitsOf (counterBlock key iv (t / 128))) (t % 128) 0
-  unfolding blocks
-  bit-of-block zero t h = absurd (omega arith)
-  bit-of-block (suc n) t h =
-      ap (λ l. getD l t 0) (bits-append (blocks key iv n) (counterBlock key iv n))
-      ∙ ⊎-elim
-      (λ k. getD-append-left (bitsOf (blocks key iv n)) (bitsOf (counterBlock key iv n)) 0 t (omega (arith, length-bits n)) ∙ bit-of-block n t k)
-      (λ k.
-      let q : n ≡ t / 128 = omega arith in
-      let r : t - 128 * n ≡ t % 128 = omega arith in
-      getD-append-right (bitsOf (blocks key iv n)) (bitsOf (counterBlock key iv n)) (128 * n) t 0 (length-bits n) k
-      ∙ ap (λ p. getD (bitsOf (counterBlock key iv n)) p 0) r
-      ∙ ap (λ i. getD (bitsOf (counterBlock key iv i)) (t % 128) 0) q)
-      (cases-lt t (128 * n))
+  bit-of-block : (n t : ℕ) → t < 128 * n → getD (bitsOf (blocks key iv n)) t 0 ≡ getD (bitsOf (counterBlock key iv (t / 128))) (t % 128) 0
+  bit-of-block n t h =
+      let all = length-blocks key iv n in
+      let one = length-block key iv (t / 128) in
+      let q : t / 8 / 16 ≡ t / 128 = omega arith in
+      let p : t / 8 % 16 ≡ t % 128 / 8 = omega arith in
+      let r : t % 8 ≡ t % 128 % 8 = omega arith in
+      bits-at (blocks key iv n) t (omega arith)
+      ∙ ap (λ b. b / 2 ^ (7 - t % 8) % 2) (byte-of-block key iv n (t / 8) (omega arith))
+      ∙ ap (λ i. getD (counterBlock key iv i) (t / 8 % 16) 0 / 2 ^ (7 - t % 8) % 2) q
+      ∙ ap (λ k. getD (counterBlock key iv (t / 128)) k 0 / 2 ^ (7 - t % 8) % 2) p
+      ∙ ap (λ k. getD (counterBlock key iv (t / 128)) (t % 128 / 8) 0 / 2 ^ (7 - k) % 2) r
+      ∙ sym (bits-at (counterBlock key iv (t / 128)) (t % 128) (omega arith))
 
   -- the next coin, from the block that has it
   pub next-coin : (n t : ℕ) (block : List ℕ) (bit : ℕ) → t < 128 * n → block ≡ counterBlock key iv (t / 128) → bit ≡ getD (bitsOf block) (t % 128) 0
@@ -60,7 +53,6 @@ pub coin-more : (bs : List ℕ) (from i bit n : ℕ) (cur next : List ℕ) → f
     → cur ≡ drop i (drop from (bitsOf bs)) → cur ≡ bit ∷ next
     → (2 * n + bit ≡ number (take (i + 1) (drop from (bitsOf bs)))) × (next ≡ drop (i + 1) (drop from (bitsOf bs)))
 coin-more bs from i bit n cur next h en ec eb =
-    let coins = drop from (bitsOf bs) in
     let inside : i < length (drop from (bitsOf bs)) = simp (length-drop, length-bitsOf) (omega arith) in
     let split : drop i (drop from (bitsOf bs)) ≡ getD (drop from (bitsOf bs)) i 0 ∷ drop (i + 1) (drop from (bitsOf bs)) = drop-more (drop from (bitsOf bs)) i 0 inside in
     let bit-is : bit ≡ getD (drop from (bitsOf bs)) i 0 = cc in

@@ -33,6 +33,7 @@ detail-same d e a b c f g =
     ∙ ap (λ x. detail (e .len) (e .layers) (e .w) (e .w′) x) g
 
 told : (i j : ℕ) (p q : Purpose) → InRange i p → InRange j q → encode i p ≡ encode j q → (i ≡ j) × (p ≡ q)
+unfolding encode
 told i j (ofSequence s a d) (ofSequence t b e) hi hj h =
     let l : numberOf (labelOf s) ≡ numberOf (labelOf t) = cc in
     let a1 : a / 256 % 256 ≡ b / 256 % 256 = cc in

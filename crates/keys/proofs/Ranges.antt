@@ -13,12 +13,6 @@ use Rattle.formats.specs.RunNames.{legal, every, printable, nameVerdict}
 use Rattle.keys.specs.declared.label.Sequence.{Sequence}
 use Rattle.keys.specs.Sequences.{pooled, layered, sized, indexSequence, sequenceVerdict, indicesLeft}
 
-pub length-in-range : (radix len size : ℕ) → sized radix len size ≡ true → (2 ≤ len) × (len ≤ 32)
-length-in-range radix len size h =
-    let inner = and-parts (pooled radix) ((leb 2 len && leb len 32) && layered len size) h .1 in
-    let both = and-parts (leb 2 len) (leb len 32) (and-parts (leb 2 len && leb len 32) (layered len size) inner .0) in
-    (leb-true 2 len (both .0), leb-true len 32 (both .1))
-
 pub legal-short : (name : List ℕ) → legal name ≡ true → length name ≤ 32
 unfolding legal
 legal-short name h =

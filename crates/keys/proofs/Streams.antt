@@ -1,15 +1,17 @@
 -- Streams: counter blocks one after the other, as they are copied into a slice. Assumes nothing.
 use mathlib.Core.Path.{_≡_, refl, sym, ap, _∙_}
 use mathlib.Core.List.{List, [], _∷_, _++_}
+use mathlib.Core.Logic.{⊎-elim}
 use Prim.Native.Nat.{ℕ, zero, suc, _+_, _-_, _*_, _/_, _%_, _≤_, _<_, min}
 use native.Mathlib.Numerals.{add-one}
 use native.Mathlib.Omega.{arith}
-use lib.ListN.{length, take, drop}
+use lib.ListN.{length, getD, take, drop}
 use lib.Seq.{take-append-add}
-use Rattle.std.proofs.shelf.Lists.{append-assoc, append-nil, length-append, length-drop, take-at, take-all, drop-at, drop-all, drop-drop}
+use Rattle.std.proofs.shelf.Lists.{append-assoc, append-nil, length-append, length-drop, length-take-le, getD-append-left, getD-append-right, getD-take, take-at, take-all, drop-at, drop-all, drop-drop}
+use Rattle.std.proofs.shelf.Tests.{cases-lt}
 use Rattle.block_cipher.specs.Aes.{cipher}
 use Rattle.block_cipher.specs.Counter.{counterBlock}
-use Rattle.keys.specs.Sequences.{blocks, stream}
+use Rattle.keys.specs.Sequences.{blocks, stream, InOrder}
 
 module _ (key iv : List ℕ) where
   pub length-block : (i : ℕ) → length (counterBlock key iv i) ≡ 16
@@ -23,6 +25,30 @@ module _ (key iv : List ℕ) where
       let a = length-blocks n in
       let b = length-block n in
       simp length-append (omega arith)
+
+  -- each byte of the blocks is a byte of one block
+  pub byte-of-block : (n j : ℕ) → j < 16 * n → getD (blocks key iv n) j 0 ≡ getD (counterBlock key iv (j / 16)) (j % 16) 0
+  unfolding blocks
+  byte-of-block zero j h = absurd (omega arith)
+  byte-of-block (suc n) j h =
+      ⊎-elim
+      (λ k. getD-append-left (blocks key iv n) (counterBlock key iv n) 0 j (omega (arith, length-blocks n)) ∙ byte-of-block n j k)
+      (λ k.
+      let q : n ≡ j / 16 = omega arith in
+      let r : j - 16 * n ≡ j % 16 = omega arith in
+      getD-append-right (blocks key iv n) (counterBlock key iv n) (16 * n) j 0 (length-blocks n) k
+      ∙ ap (λ p. getD (counterBlock key iv n) p 0) r
+      ∙ ap (λ i. getD (counterBlock key iv i) (j % 16) 0) q)
+      (cases-lt j (16 * n))
+
+  pub in-order : (n : ℕ) → InOrder key iv n
+  unfolding stream
+  in-order n =
+      let count = (n + 15) / 16 in
+      record {
+        long = length-take-le n (blocks key iv count) (omega (arith, length-blocks count));
+        each = λ j h. getD-take n (blocks key iv count) j 0 h ∙ byte-of-block count j (omega arith);
+      }
 
   -- before the first block
   pub stream-none : (n : ℕ) (old : List ℕ) → old ≡ take n (blocks key iv 0) ++ drop 0 old

@@ -1,6 +1,6 @@
--- Branch distances: how far apart a branch reads two symbols of a code, by the code's length. Assumes nothing.
+-- Branch distances: how far from the two ends of a code a layer looks, by the code's length. Assumes nothing.
 --   root          the whole root of a number: the greatest number whose square is not above it
---   wOf, w′Of     the two distances of a length
+--   wOf, w′Of     the two distances of a length, from the front and from the end
 --   distancesOf   the answer for a length: 2 to 32 has distances
 --   Rooted        what makes the root the root
 use mathlib.Core.Bool.{cond, _&&_}

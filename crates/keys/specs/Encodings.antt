@@ -42,7 +42,7 @@ opening counter label radix = counter ∷ numberOf label ∷ (two 256 ++ two rad
 abbrev pub sizes : Detail → List ℕ
 sizes d = d .len ∷ (two (d .layers) ++ d .w ∷ d .w′ ∷ length (d .run) ∷ [])
 
-abbrev pub encode : ℕ → Purpose → List ℕ
+unfoldable pub encode : ℕ → Purpose → List ℕ
 encode counter (ofSequence s radix d) = opening counter (labelOf s) radix ++ (sizes d ++ d .run)
 encode counter (ofPool radix) = opening counter FpePool radix
 

@@ -20,7 +20,7 @@ use Rattle.keys.specs.Encodings.{ofPool}
 use Rattle.keys.specs.Sequences.{firstHalf, secondHalf, blocks, pooled}
 
 -- the halves of the derived key are the AES key and the first counter, as they are
-abbrev pub keyBits : List ℕ → ℕ → List ℕ
+unfoldable pub keyBits : List ℕ → ℕ → List ℕ
 keyBits main radix = let key = derivedKey main (ofPool radix) in bitsOf (blocks (firstHalf key) (secondHalf key) 4096)
 
 abbrev pub remaining : KeyCoins → List ℕ

@@ -4,3 +4,4 @@ pub mod Encodings
 pub mod Derived
 pub mod Sequences
 pub mod KeyBits
+pub mod Encoded

@@ -5,16 +5,18 @@
 --   blocks           so many counter blocks, one after the other
 --   stream           so many bytes of them
 --   indexSequence    the index sequence
+--   InOrder          where each byte of a stream comes from
 --   pooled           whether there are pools of a radix: 4 to 64
 --   layered          whether a size is a number of layers of a length
 --   sized            whether a radix, a length and a size are in range
 --   sequenceVerdict  the answer to a call
 --   indicesLeft      what its slice holds then
+use mathlib.Core.Path.{_≡_}
 use mathlib.Core.Bool.{Bool, cond, _&&_}
 use mathlib.Core.List.{List, [], _∷_, _++_}
-use Prim.Native.Nat.{ℕ, zero, suc, _+_, _/_, _%_}
+use Prim.Native.Nat.{ℕ, zero, suc, _+_, _/_, _%_, _<_}
 use lib.Dec.{leb, eqb}
-use lib.ListN.{length, take, drop}
+use lib.ListN.{length, getD, take, drop}
 use Rattle.std.specs.declared.result.Result.{Result}
 use Rattle.std.specs.declared.result.Result.the-variants.{Err}
 use Rattle.block_cipher.specs.Counter.{counterBlock}
@@ -27,7 +29,7 @@ use Rattle.keys.specs.Derived.{derivedKey}
 use Rattle.keys.specs.Distances.{wOf, w′Of}
 use Rattle.keys.specs.Encodings.{Purpose, ofSequence}
 
-abbrev pub sequenceList : Sequence → ℕ → ℕ → ℕ → List ℕ → Purpose
+unfoldable pub sequenceList : Sequence → ℕ → ℕ → ℕ → List ℕ → Purpose
 sequenceList s radix len layers run =
     ofSequence s radix (record { len = len; layers = layers; w = wOf len; w′ = w′Of len; run = run })
 
@@ -49,7 +51,7 @@ unfoldable pub stream : List ℕ → List ℕ → ℕ → List ℕ
 stream key iv n = take n (blocks key iv ((n + 15) / 16))
 
 -- under the main key, for n layers
-abbrev pub indexSequence : List ℕ → Sequence → ℕ → ℕ → List ℕ → ℕ → List ℕ
+unfoldable pub indexSequence : List ℕ → Sequence → ℕ → ℕ → List ℕ → ℕ → List ℕ
 indexSequence main s radix len run n =
     let key = derivedKey main (sequenceList s radix len n run) in stream (firstHalf key) (startOf key) n
 
@@ -71,3 +73,8 @@ sequenceVerdict radix len run size = cond (sized radix len size) (nameVerdict ru
 abbrev pub indicesLeft : List ℕ → Sequence → ℕ → ℕ → List ℕ → List ℕ → List ℕ
 indicesLeft main s radix len run old =
     cond (sized radix len (length old) && legal run) (indexSequence main s radix len run (length old)) old
+
+-- as many bytes as asked for, and each from its place in its block
+pub record InOrder (key iv : List ℕ) (n : ℕ) : Type 0 where
+  pub long : length (stream key iv n) ≡ n
+  pub each : (j : ℕ) → j < n → getD (stream key iv n) j 0 ≡ getD (counterBlock key iv (j / 16)) (j % 16) 0

@@ -8,7 +8,7 @@ ghost use Rattle.keys.specs.Derived.{derivedKey};
 ghost use Rattle.keys.specs.Encodings.{ofPool};
 ghost use Rattle.keys.specs.Sequences.{sequenceList, firstHalf, secondHalf};
 use crate::encoding::encode_pool;
-use crate::encoding::encode_sequence;
+use crate::encoding::write_sequence;
 use crate::label::Sequence;
 use block_cipher::cmac::Cmac;
 
@@ -22,12 +22,11 @@ pub(crate) fn derive_sequence(
     run: &[u8],
     key: &mut [u8; 32],
 )
-    requires len { ⌜ 2 ≤ len ⌝ ∗ ⌜ len ≤ 32 ⌝ }
-    requires run { ⌜ length (now run) ≤ 32 ⌝ }
+    requires { ⌜ length (now run) ≤ 32 ⌝ }
     ensures { λ _. ⌜ now (key .exit) ≡ derivedKey (macKeyOf (now (mac .entry))) (sequenceList sequence radix len layers (now (run .entry))) ⌝ }
 {
-    let first = encode_sequence(0, sequence, u16::from(radix), len, layers, run);
-    let second = encode_sequence(1, sequence, u16::from(radix), len, layers, run);
+    let first = write_sequence(0, sequence, u16::from(radix), len, layers, run);
+    let second = write_sequence(1, sequence, u16::from(radix), len, layers, run);
     join(mac.tag(first.as_slice()), mac.tag(second.as_slice()), key);
 }
 

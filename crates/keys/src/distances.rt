@@ -1,11 +1,10 @@
-// How far apart a branch reads two symbols of a code, by the code's length.
+// How far from the two ends of a code a layer looks, by the code's length.
 ghost use mathlib.Core.Path.{_≡_};
-ghost use Prim.Native.Nat.{_≤_};
 ghost use Rattle.keys.specs.Distances.{distances, distancesOf};
 use formats::fault::Cause;
 use formats::fault::Fault;
 
-// The two branch distances of a length: w and w′.
+// The two branch distances of a length: w from the front, and w′ from the end.
 #[derive(Clone, Copy, PartialEq, Eq, Debug)]
 pub struct Distances {
     pub w: u8,
@@ -24,12 +23,11 @@ pub fn branch_distances(len: u8) -> Result<Distances, Fault>
 }
 
 impl Distances {
-    // The same of a length that is known to be in range.
+    // What the formulas give, for a length that is known to be in range.
     pub(crate) fn of(len: u8) -> Distances
-        requires { ⌜ 2 ≤ len ⌝ ∗ ⌜ len ≤ 32 ⌝ }
         ensures { λ r. ⌜ r ≡ distances len ⌝ }
     {
-        let w = len.isqrt().min(len - 2);
+        let w = len.isqrt().min(len.saturating_sub(2));
         let w_prime = w.saturating_sub(1).max(1);
         Distances { w, w_prime }
     }

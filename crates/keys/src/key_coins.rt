@@ -7,6 +7,8 @@ use block_cipher::aes::Aes128;
 
 mod methods;
 
+pub use methods::KeyCoinsCoins;
+
 // The bits of 4,096 counter blocks, the highest bit of each byte first. The block that has the next coin is kept,
 // so that each block is encrypted once.
 #[derive(Drop)]

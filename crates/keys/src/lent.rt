@@ -11,7 +11,13 @@ impl Drop for Lent<'_> {
     fn drop(self)
         ensures { λ _. ⌜ now (self .exit .0) ≡ cleared ⌝ }
     {
-        *self.bytes = [0; 32];
+        clear(self.bytes);
         let Lent { bytes: _ } = self;
     }
+}
+
+fn clear(bytes: &mut [u8; 32])
+    ensures { λ _. ⌜ now (bytes .exit) ≡ cleared ⌝ }
+{
+    *bytes = [0; 32];
 }

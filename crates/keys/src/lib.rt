@@ -1,7 +1,7 @@
 // What follows from the main key: derived keys, index sequences, and coins.
 mod derive;
 pub mod distances;
-mod encoding;
+pub mod encoding;
 pub mod key_coins;
 pub mod label;
 pub mod laws;

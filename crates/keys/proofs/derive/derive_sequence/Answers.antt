@@ -10,6 +10,6 @@ pub returns : need.returns
 returns c =
     let listed : ℕ → Purpose = λ radix. sequenceList (c .args .sequence) radix (c .args .len) (c .args .layers) (c .args .run .now) in
     derives (macKeyOf (c .args .mac .now)) (listed (c .args .radix)) _ _ _ _ _
-    (c .as-slice .ensures ∙ c .encode-sequence-first .ensures ∙ ap (λ r. encode 0 (listed r)) (c .from .ensures))
-    (c .as-slice-2 .ensures ∙ c .encode-sequence-second .ensures ∙ ap (λ r. encode 1 (listed r)) (c .from-2 .ensures))
+    (c .as-slice .ensures ∙ c .write-sequence-first .ensures ∙ ap (λ r. encode 0 (listed r)) (c .from .ensures))
+    (c .as-slice-2 .ensures ∙ c .write-sequence-second .ensures ∙ ap (λ r. encode 1 (listed r)) (c .from-2 .ensures))
     (c .tag .ensures) (c .tag-2 .ensures) (c .join .ensures)

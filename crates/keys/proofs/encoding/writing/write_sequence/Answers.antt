@@ -4,12 +4,14 @@ use Prim.Native.Nat.{ℕ, _+_, _-_}
 use native.Mathlib.Omega.{arith}
 use lib.ListN.{length}
 use Rattle.keys.specs.Distances.{wOf, w′Of}
-use Rattle.keys.specs.Encodings.{two, opening}
+use Rattle.keys.specs.Encodings.{two, opening, encode}
 use Rattle.keys.specs.Labels.{labelOf}
+use Rattle.keys.specs.Sequences.{sequenceList}
 use Rattle.keys.proofs.Pieces.{three-pieces}
-use Rattle.keys.proofs.encoding.encode_sequence.Needs as need
+use Rattle.keys.proofs.encoding.writing.write_sequence.Needs as need
 
 pub returns : need.returns
+unfolding encode sequenceList
 returns c =
     let run = c .args .run .now in
     let n = length run in
