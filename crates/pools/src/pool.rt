@@ -3,17 +3,12 @@ ghost use mathlib.Core.Path.{_≡_};
 ghost use mathlib.Core.List.{_++_};
 ghost use Prim.Native.Nat.{_+_, _*_, _≤_, _<_};
 ghost use lib.ListN.{length, take};
-<<<<<<< HEAD
-ghost use Rattle.pools.specs.Rows.{rowsOf, flat, Inside, Undone};
-
-=======
 ghost use Rattle.std.specs.shelf.Lists.{All};
 ghost use Rattle.coins.specs.Sboxes.{entries as entriesOf, inverses as inversesOf};
 ghost use Rattle.pools.specs.Rows.{rowsOf, flat, written, Inside, Undone};
 use coins::sbox::Sbox;
 
 mod file;
->>>>>>> pools
 mod read;
 mod shuffle;
 
