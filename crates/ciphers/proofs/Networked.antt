@@ -60,7 +60,7 @@ unfolding derivedKey
 derived-bytes key p h = all-append (λ (x : ℕ). x < 256) (cmac key (encode 0 p)) (cmac key (encode 1 p)) (cmac-bytes key (encode 0 p) h) (cmac-bytes key (encode 1 p) h)
 
 pub indices-bytes : (net : Network) (f : Form) (run : List ℕ) → Bytes (net .key) → Bytes (indicesOf net f run)
-unfolding indicesOf stream
+unfolding indicesOf indexSequence stream
 indices-bytes net f run h =
     let P : ℕ → Type 0 = λ x. x < 256 in
     let d = derivedKey (net .key) (sequenceList (net .sequence) (net .radix) (f .len) (layersOf f) run) in

@@ -3,4 +3,5 @@ pub mod checks;
 pub mod cipher;
 mod core;
 pub mod fast;
+pub mod key_pool;
 mod window;
