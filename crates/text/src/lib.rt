@@ -1,0 +1,2 @@
+// Lines of text taken apart: the words of a line, and what hexadecimal digits spell.
+pub mod reader;
