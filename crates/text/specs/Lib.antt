@@ -1,2 +1,3 @@
 pub mod Words
 pub mod Readers
+pub mod Hex
