@@ -47,13 +47,25 @@ pub fn block(letters: Letters, text: &[u8]) -> Option<[u8; 16]>
     Some(block)
 }
 
+// Whether a text is an even number of digits.
+pub fn is_bytes(letters: Letters, text: &[u8]) -> bool
+    ensures { λ r. ⌜ r ≡ isSome (bytesOf letters (now (text .entry))) ⌝ }
+{
+    for i in 0..text.len() / 2 {
+        if byte(letters, text[2 * i], text[2 * i + 1]).is_none() {
+            return false;
+        }
+    }
+    text.len() % 2 == 0
+}
+
 // Reads an even number of digits where they stand: the bytes that they spell take the place of the first half,
 // and their number is the answer. Any other text is left as it is.
 pub fn decode(letters: Letters, text: &mut [u8]) -> Option<usize>
     ensures value { λ r. ⌜ r ≡ mapped length (bytesOf letters (now (text .entry))) ⌝ }
     ensures after { λ _. ⌜ now (text .exit) ≡ inPlace (now (text .entry)) (bytesOf letters (now (text .entry))) ⌝ }
 {
-    if !readable(letters, text) {
+    if !is_bytes(letters, text) {
         return None;
     }
     let n = text.len() / 2;
@@ -96,18 +108,6 @@ pub fn digits_read_back() -> u8
     ensures { λ _. ⌜ ReadsBack ⌝ }
 {
     0
-}
-
-// Whether a text is an even number of digits.
-fn readable(letters: Letters, text: &[u8]) -> bool
-    ensures { λ r. ⌜ r ≡ isSome (bytesOf letters (now (text .entry))) ⌝ }
-{
-    for i in 0..text.len() / 2 {
-        if byte(letters, text[2 * i], text[2 * i + 1]).is_none() {
-            return false;
-        }
-    }
-    text.len() % 2 == 0
 }
 
 fn upper_digit(b: u8) -> Option<u8>

@@ -6,15 +6,15 @@ use Rattle.std.specs.declared.option.Option.the-variants.{Some}
 use Rattle.text.proofs.InPlace.{refused-value, refused-after, still-the-same, one-byte-more, never-refused, read-value, read-after}
 use Rattle.text.proofs.hex.decode.Needs as need
 
-pub returns-then-not-readable : need.returns-then-not-readable
-returns-then-not-readable c = record {
-  value = refused-value _ (c .if-not-readable .ensures tt);
-  after = refused-after (c .args .text .now) _ (c .if-not-readable .ensures tt);
+pub returns-then-not-is-bytes : need.returns-then-not-is-bytes
+returns-then-not-is-bytes c = record {
+  value = refused-value _ (c .if-not-is-bytes .ensures tt);
+  after = refused-after (c .args .text .now) _ (c .if-not-is-bytes .ensures tt);
 }
 
 pub returns-in-Break-b : need.returns-in-Break-b
 returns-in-Break-b c =
-    absurd (never-refused (c .args .letters) (c .args .text .now) (c .loop-i .text) (c .loop-i .i) (c .loop-i .inv .0) (c .loop-i .inv .1) (c .if-not-readable .ensures tt) (omega arith) (c .in-Break-b .ensures tt))
+    absurd (never-refused (c .args .letters) (c .args .text .now) (c .loop-i .text) (c .loop-i .i) (c .loop-i .inv .0) (c .loop-i .inv .1) (c .if-not-is-bytes .ensures tt) (omega arith) (c .in-Break-b .ensures tt))
 
 pub loop-i-again : need.loop-i-again
 loop-i-again c = (
@@ -26,6 +26,6 @@ pub returns : need.returns
 returns c =
     let n : c .loop-i .i ≡ length (c .args .text .now) / 2 = omega arith in
     record {
-      value = ap (λ k. Some k) (sym n) ∙ read-value (c .args .letters) (c .args .text .now) (c .loop-i .text) (c .loop-i .i) (c .loop-i .inv .0) (c .loop-i .inv .1) (c .if-not-readable .ensures tt) n (omega arith);
-      after = read-after (c .args .letters) (c .args .text .now) (c .loop-i .text) (c .loop-i .i) (c .loop-i .inv .0) (c .loop-i .inv .1) (c .if-not-readable .ensures tt) n (omega arith);
+      value = ap (λ k. Some k) (sym n) ∙ read-value (c .args .letters) (c .args .text .now) (c .loop-i .text) (c .loop-i .i) (c .loop-i .inv .0) (c .loop-i .inv .1) (c .if-not-is-bytes .ensures tt) n (omega arith);
+      after = read-after (c .args .letters) (c .args .text .now) (c .loop-i .text) (c .loop-i .i) (c .loop-i .inv .0) (c .loop-i .inv .1) (c .if-not-is-bytes .ensures tt) n (omega arith);
     }
