@@ -2,8 +2,10 @@
 --   answerTo    the answer to a request
 --   answerOf    the answer to a line
 --   leftOf      what the line holds after its answer: a message is read where it stands
---   Answered    what lines of each form are answered
+--   Asks        a line asks for sixteen bytes, in its words
+--   Answered    each line is answered what it asks for
 use mathlib.Core.Path.{_≡_}
+use mathlib.Core.Bool.{true}
 use mathlib.Core.List.{List, [], _∷_, _++_}
 use Prim.Native.Nat.{ℕ, _-_}
 use lib.Chars.{codes}
@@ -23,7 +25,7 @@ use Rattle.block_lines.specs.declared.unreadable.Unreadable.{Unreadable}
 use Rattle.block_lines.specs.declared.unreadable.Unreadable.the-variants.{Message}
 use Rattle.block_lines.specs.declared.request.Request.{Request}
 use Rattle.block_lines.specs.declared.request.Request.the-variants.{Nothing, Encrypt, Counter, Cmac}
-use Rattle.block_lines.specs.Requests.{andThen, requestOf}
+use Rattle.block_lines.specs.Requests.{andThen, silent, requestOf}
 
 -- the last n bytes of a line
 abbrev pub lastOf : ℕ → List ℕ → List ℕ
@@ -53,24 +55,30 @@ leftBy line (Ok (Cmac key n)) =
 unfoldable pub leftOf : List ℕ → List ℕ
 leftOf line = leftBy line (requestOf line)
 
--- the words of lines, and their answers; digits are read in either case
-pub record Answered : Type 0 where
-  -- `encrypt KEY BLOCK` is answered the encryption of the block
-  pub encrypts : (line k b key block : List ℕ) → wordsOf line ≡ codes "encrypt" ∷ k ∷ b ∷ []
+-- a line asks for sixteen bytes, by its words; digits are read in either case
+pub data Asks (line out : List ℕ) : Type 0 where
+  -- `encrypt KEY BLOCK`: the encryption of the block
+  encrypt : (k b key block : List ℕ) → wordsOf line ≡ codes "encrypt" ∷ k ∷ b ∷ []
       → blockOf Either k ≡ Some key → blockOf Either b ≡ Some block
-      → answerOf line ≡ Ok (Some (cipher key block))
-  -- `counter KEY IV INDEX` is answered the encryption of IV + INDEX
-  pub counts : (line k v i key iv : List ℕ) (index : ℕ) → wordsOf line ≡ codes "counter" ∷ k ∷ v ∷ i ∷ []
+      → out ≡ cipher key block → Asks line out
+  -- `counter KEY IV INDEX`: the encryption of IV + INDEX
+  counter : (k v i key iv : List ℕ) (index : ℕ) → wordsOf line ≡ codes "counter" ∷ k ∷ v ∷ i ∷ []
       → blockOf Either k ≡ Some key → blockOf Either v ≡ Some iv → numberOf Either i ≡ Some index
-      → answerOf line ≡ Ok (Some (counterBlock key iv index))
-  -- `cmac KEY MESSAGE` is answered the message's tag
-  pub tags : (line k m key message : List ℕ) → wordsOf line ≡ codes "cmac" ∷ k ∷ m ∷ []
-      → blockOf Either k ≡ Some key → bytesOf Either m ≡ Some message → (m ≡ [] → ⊥)
-      → answerOf line ≡ Ok (Some (cmac key message))
-  -- `cmac KEY` is answered the empty message's tag
-  pub tags-nothing : (line k key : List ℕ) → wordsOf line ≡ codes "cmac" ∷ k ∷ []
+      → out ≡ counterBlock key iv index → Asks line out
+  -- `cmac KEY MESSAGE`: the tag of the message
+  tag : (k m key message : List ℕ) → wordsOf line ≡ codes "cmac" ∷ k ∷ m ∷ [] → (m ≡ [] → ⊥)
+      → blockOf Either k ≡ Some key → bytesOf Either m ≡ Some message
+      → out ≡ cmac key message → Asks line out
+  -- `cmac KEY`: the tag of the empty message
+  tag-of-nothing : (k key : List ℕ) → wordsOf line ≡ codes "cmac" ∷ k ∷ []
       → blockOf Either k ≡ Some key
-      → answerOf line ≡ Ok (Some (cmac key []))
-  -- an empty line and a comment are answered nothing
-  pub skips-empty : answerOf [] ≡ Ok None
-  pub skips-comment : (rest : List ℕ) → answerOf (35 ∷ rest) ≡ Ok None
+      → out ≡ cmac key [] → Asks line out
+
+pub record Answered : Type 0 where
+  -- a line is answered the bytes that it asks for
+  pub each : (line out : List ℕ) → Asks line out → answerOf line ≡ Ok (Some out)
+  -- and no line is answered others
+  pub only : (line out : List ℕ) → answerOf line ≡ Ok (Some out) → Asks line out
+  -- an empty line and a comment are answered nothing, and no other line is
+  pub skips : (line : List ℕ) → silent line ≡ true → answerOf line ≡ Ok None
+  pub skips-only : (line : List ℕ) → answerOf line ≡ Ok None → silent line ≡ true
