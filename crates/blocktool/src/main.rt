@@ -33,10 +33,9 @@ fn reply(rt: &LibcRuntime, number: u64, line: &mut Vec<u8>) -> io::Result<()> {
     }
 }
 
-// Prints a block's 32 digits.
+// Prints a block's 32 digits, and a line's end, in one write.
 fn print_block(rt: &LibcRuntime, block: [u8; 16]) -> io::Result<()> {
-    let digits = hex::lower(block);
-    let mut out = rt.stdout();
-    out.write_all(&digits)?;
-    out.write_all(b"\n")
+    let mut text = [b'\n'; 33];
+    text[0..32].copy_from_slice(&hex::lower(block));
+    rt.stdout().write_all(&text)
 }

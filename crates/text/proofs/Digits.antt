@@ -59,13 +59,13 @@ read-lower : (n : ℕ) → n < 16 → Some n ≡ digitOf Either (lowerDigit n)
 unfolding digitOf
 read-lower n h = grind (arith, tells)
 
-pub reads-back : ReadsBack
+read-bytes : (bs : List ℕ) → Bytes bs → bytesOf Either (digitsOf bs) ≡ Some bs
 unfolding bytesOf digitsOf
-reads-back [] h = refl
-reads-back (b ∷ bs) h =
+read-bytes [] h = refl
+read-bytes (b ∷ bs) h =
     let e = two-digits Either _ _ (b / 16) (b % 16) (read-lower (b / 16) (omega (arith, h .0))) (read-lower (b % 16) (omega arith)) in
     let n : 16 * (b / 16) + b % 16 ≡ b = omega arith in
-    ap (λ o. both (λ b bs. b ∷ bs) o (bytesOf Either (digitsOf bs))) (sym e) ∙ ap (both (λ b bs. b ∷ bs) (Some (16 * (b / 16) + b % 16))) (reads-back bs (h .1)) ∙ ap (λ m. Some (m ∷ bs)) n
+    ap (λ o. both (λ b bs. b ∷ bs) o (bytesOf Either (digitsOf bs))) (sym e) ∙ ap (both (λ b bs. b ∷ bs) (Some (16 * (b / 16) + b % 16))) (read-bytes bs (h .1)) ∙ ap (λ m. Some (m ∷ bs)) n
 
 module _ (l : Letters) (text : List ℕ) (i : ℕ) (pair : 2 * i + 1 < length text) where
   -- one pair more is read, and its byte put at place i of out
@@ -163,3 +163,21 @@ digits-more bs out i x y h k ex ey inv =
 
 pub digits-all : (bs out : List ℕ) (i : ℕ) → length bs ≡ 16 → length out ≡ 32 → i ≡ 16 → take (2 * i) out ≡ digitsOf (take i bs) → out ≡ digitsOf bs
 digits-all bs out i h k e inv = sym (take-all (2 * i) out (omega (arith, k, e))) ∙ inv ∙ ap digitsOf (take-all i bs (omega (arith, h, e)))
+
+two-each : (bs : List ℕ) → length (digitsOf bs) ≡ 2 * length bs
+unfolding digitsOf
+two-each [] = refl
+two-each (b ∷ bs) = let e = two-each bs in omega (arith, e)
+
+upper-either : (b d : ℕ) → digitOf Upper b ≡ Some d → digitOf Either b ≡ Some d
+unfolding digitOf
+upper-either b d e = grind (arith, tells)
+
+pub reads-back : ReadsBack
+unfolding blockOf
+reads-back = record {
+  bytes = read-bytes;
+  block = λ bs h k. cond-true (eqb (length (digitsOf bs)) 32) (bytesOf Either (digitsOf bs)) None (eq-eqb (length (digitsOf bs)) 32 (omega (arith, two-each bs, k))) ∙ read-bytes bs h;
+  long = two-each;
+  either = upper-either;
+}

@@ -76,5 +76,10 @@ abbrev pub Bytes : List ℕ → Type 0
 Bytes [] = Unit {0}
 Bytes (b ∷ bs) = (b < 256) × Bytes bs
 
-abbrev pub ReadsBack : Type 0
-ReadsBack = (bs : List ℕ) → Bytes bs → bytesOf Either (digitsOf bs) ≡ Some bs
+pub record ReadsBack : Type 0 where
+  pub bytes : (bs : List ℕ) → Bytes bs → bytesOf Either (digitsOf bs) ≡ Some bs
+  pub block : (bs : List ℕ) → Bytes bs → length bs ≡ 16 → blockOf Either (digitsOf bs) ≡ Some bs
+  -- a byte has two digits
+  pub long : (bs : List ℕ) → length (digitsOf bs) ≡ 2 * length bs
+  -- a digit in upper case is one in either case too, and of the same value
+  pub either : (b d : ℕ) → digitOf Upper b ≡ Some d → digitOf Either b ≡ Some d
