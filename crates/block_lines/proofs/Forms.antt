@@ -118,6 +118,9 @@ some-of : {A : Type 0} (o : Option A) → isSome o ≡ true → (x : A) × (o �
 some-of (Some x) e = (x, refl)
 some-of None e = absurd (true≢false (sym e))
 
+tail-is : {ws vs : List (List ℕ)} {w : List ℕ} → ws ≡ w ∷ vs → vs ≡ restOf ws
+tail-is e = sym (ap restOf e)
+
 -- h reads the first word
 first-word : {A : Type 0} (h : List ℕ → Result A Unreadable) (ws : List (List ℕ)) (x : A) → andThen (presentIn (firstOf ws)) h ≡ Ok x
     → (w : List ℕ) × (vs : List (List ℕ)) × (ws ≡ w ∷ vs) × (h w ≡ Ok x)
@@ -138,7 +141,7 @@ module _ (line k key : List ℕ) (us : List (List ℕ)) (q : Request) (ek : bloc
       let r = read-first (blockIn Block (firstOf us)) (λ block. andThen (ended (firstOf (restOf us))) (λ _. Ok (Encrypt key block))) q e in
       let w = first-word (λ t. okOr (blockOf Either t) Block) us (r .0) (r .1) in
       let t = read-first (ended (firstOf (restOf us))) (λ _. Ok (Encrypt key (r .0))) q (r .2) in
-      let last : w .1 ≡ [] = sym (ap restOf (w .2)) ∙ no-more (restOf us) (t .0) (t .1) in
+      let last : w .1 ≡ [] = tail-is (w .2) ∙ no-more (restOf us) (t .0) (t .1) in
       (cipher key (r .0), encrypt k (w .0) key (r .0) (split ∙ ap (λ l. codes "encrypt" ∷ k ∷ l) (w .2 ∙ ap (λ l. w .0 ∷ l) last)) ek (from-ok (blockOf Either (w .0)) Block (r .0) (w .3)) refl)
 
   counter-form : wordsOf line ≡ codes "counter" ∷ k ∷ us → counterOf key us ≡ Ok q → (out : List ℕ) × Asks line out
@@ -149,8 +152,8 @@ module _ (line k key : List ℕ) (us : List (List ℕ)) (q : Request) (ek : bloc
       let t = read-first (numberIn (firstOf (restOf us))) (λ i. andThen (ended (firstOf (restOf (restOf us)))) (λ _. Ok (Counter key (r .0) i))) q (r .2) in
       let v = first-word (λ t. okOr (numberOf Either t) Index) (restOf us) (t .0) (t .1) in
       let n = read-first (ended (firstOf (restOf (restOf us)))) (λ _. Ok (Counter key (r .0) (t .0))) q (t .2) in
-      let last : v .1 ≡ [] = sym (ap restOf (v .2)) ∙ no-more (restOf (restOf us)) (n .0) (n .1) in
-      let rest : w .1 ≡ v .0 ∷ [] = sym (ap restOf (w .2)) ∙ v .2 ∙ ap (λ l. v .0 ∷ l) last in (
+      let last : v .1 ≡ [] = tail-is (v .2) ∙ no-more (restOf (restOf us)) (n .0) (n .1) in
+      let rest : w .1 ≡ v .0 ∷ [] = tail-is (w .2) ∙ v .2 ∙ ap (λ l. v .0 ∷ l) last in (
         counterBlock key (r .0) (t .0),
         counter k (w .0) (v .0) key (r .0) (t .0) (split ∙ ap (λ l. codes "counter" ∷ k ∷ l) (w .2 ∙ ap (λ l. w .0 ∷ l) rest)) ek (from-ok (blockOf Either (w .0)) Iv (r .0) (w .3)) (from-ok (numberOf Either (v .0)) Index (t .0) (v .3)) refl,
       )
@@ -216,7 +219,7 @@ form line q e =
     let t = read-first (blockIn Key (firstOf (restOf ws))) (λ key. argumentsOf (r .0) key (restOf (restOf ws))) q (r .2) in
     let v = first-word (λ t. okOr (blockOf Either t) Key) (restOf ws) (t .0) (t .1) in
     command-form line (w .0) (v .0) (t .0) (v .1) (r .0) q (w .3) (from-ok (blockOf Either (v .0)) Key (t .0) (v .3))
-    (w .2 ∙ ap (λ l. w .0 ∷ l) (sym (ap restOf (w .2)) ∙ v .2)) (ap (argumentsOf (r .0) (t .0)) (sym (ap restOf (v .2))) ∙ t .2)
+    (w .2 ∙ ap (λ l. w .0 ∷ l) (tail-is (w .2) ∙ v .2)) (ap (argumentsOf (r .0) (t .0)) (tail-is (v .2)) ∙ t .2)
 
 each : (line out : List ℕ) → Asks line out → answerOf line ≡ Ok (Some out)
 unfolding answerTo bytesOf
