@@ -1,0 +1,4 @@
+pub mod Chains
+pub mod Tags
+pub mod Replies
+pub mod Forms

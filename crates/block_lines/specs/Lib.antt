@@ -1,0 +1,3 @@
+pub mod Messages
+pub mod Requests
+pub mod Answers

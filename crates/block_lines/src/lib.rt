@@ -1,0 +1,4 @@
+// What each line of the program `blocktool` is answered.
+pub mod answer;
+mod request;
+pub mod unreadable;

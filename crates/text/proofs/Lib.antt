@@ -1,0 +1,5 @@
+pub mod Splits
+pub mod Handed
+pub mod Digits
+pub mod Numbers
+pub mod InPlace
