@@ -24,16 +24,9 @@ pub(crate) fn encrypt(
     ensures { λ _. ⌜ take len (drop (length (now (indices .entry))) (now (window .exit))) ≡ coreEncrypt (rowsOf radix 256 (now (table .entry))) radix w v (now (indices .entry)) (take len (now (window .entry))) ⌝ }
 {
     for k in 0..indices.len() {
-        let z = forward_symbol(
-            table,
-            radix,
-            w,
-            indices[k],
-            window[k],
-            window[k + (len - v)],
-            window[k + w],
-        );
-        window[k + len] = z;
+        let behind = window[k + (len - v)];
+        let ahead = window[k + w];
+        window[k + len] = forward_symbol(table, radix, w, indices[k], window[k], behind, ahead);
     }
 }
 
@@ -56,16 +49,9 @@ pub(crate) fn decrypt(
     let mut k = indices.len();
     while k > 0 {
         k -= 1;
-        let z = backward_symbol(
-            table,
-            radix,
-            w,
-            indices[k],
-            window[k + len],
-            window[k + w],
-            window[k + (len - v)],
-        );
-        window[k] = z;
+        let ahead = window[k + w];
+        let behind = window[k + (len - v)];
+        window[k] = backward_symbol(table, radix, w, indices[k], window[k + len], ahead, behind);
     }
 }
 

@@ -55,15 +55,9 @@ impl Fast {
         let layers = shape.layers() as usize;
         let mut lent = [0u8; 32];
         let mut indices = [0u8; 2048];
-        let _ = index_sequence(
-            &self.mac,
-            sequence,
-            radix,
-            shape.len(),
-            run,
-            &mut lent,
-            &mut indices[0..layers],
-        );
+        let len = shape.len();
+        let part = &mut indices[0..layers];
+        let _ = index_sequence(&self.mac, sequence, radix, len, run, &mut lent, part);
         indices
     }
 

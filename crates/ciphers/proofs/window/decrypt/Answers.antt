@@ -14,8 +14,8 @@ loop-k-holds c = (
   decrypt-start (rowsOf (c .args .radix) 256 (c .args .table .now)) (c .args .radix) (c .args .len) (c .args .w) (c .args .v) (c .pre .near .0) (c .args .indices .now) _,
 )
 
-pub backward-symbol-z-requires : need.backward-symbol-z-requires
-backward-symbol-z-requires c κs =
+pub backward-symbol-requires : need.backward-symbol-requires
+backward-symbol-requires c κs =
     let near = c .pre .near .0 in
     let symbol : (j : ℕ) → j ≤ c .args .len → getD (c .loop-k .window) (c .loop-k .k - 1 + j) 0 < c .args .radix = λ j h.
     all-getD (λ (x : ℕ). x < c .args .radix) (c .loop-k .window) (c .loop-k .k - 1 + j) 0 (omega (arith, c .loop-k-test .taken, c .loop-k .inv .1, c .pre .room .0, c .loop-k .kept .window)) (c .loop-k .inv .0) in
@@ -23,9 +23,9 @@ backward-symbol-z-requires c κs =
 
 pub loop-k-again : need.loop-k-again
 loop-k-again c = (
-  all-set (λ (x : ℕ). x < c .args .radix) (c .loop-k .window) (c .loop-k .k - 1) (c .backward-symbol-z .result) (c .backward-symbol-z .ensures .small) (c .loop-k .inv .0),
+  all-set (λ (x : ℕ). x < c .args .radix) (c .loop-k .window) (c .loop-k .k - 1) (c .backward-symbol .result) (c .backward-symbol .ensures .small) (c .loop-k .inv .0),
   omega (arith, c .loop-k .inv .1),
-  decrypt-down (rowsOf (c .args .radix) 256 (c .args .table .now)) (c .args .radix) (c .args .len) (c .args .w) (c .args .v) (c .pre .near .0) (c .args .indices .now) (c .loop-k .window) _ (c .loop-k .k) (c .backward-symbol-z .result) (c .loop-k-test .taken) (c .loop-k .inv .1) (omega (arith, c .loop-k .kept .window, c .pre .room .0)) (c .backward-symbol-z .ensures .value) (c .loop-k .inv .2),
+  decrypt-down (rowsOf (c .args .radix) 256 (c .args .table .now)) (c .args .radix) (c .args .len) (c .args .w) (c .args .v) (c .pre .near .0) (c .args .indices .now) (c .loop-k .window) _ (c .loop-k .k) (c .backward-symbol .result) (c .loop-k-test .taken) (c .loop-k .inv .1) (omega (arith, c .loop-k .kept .window, c .pre .room .0)) (c .backward-symbol .ensures .value) (c .loop-k .inv .2),
 )
 
 pub returns : need.returns
