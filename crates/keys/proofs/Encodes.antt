@@ -1,12 +1,12 @@
 -- Encodes: lists that are encoded alike are equal. Assumes nothing.
-use mathlib.Core.Path.{_≡_, refl, sym, ap, _∙_}
-use mathlib.Core.List.{List, [], _∷_, _++_}
-use Prim.Native.Nat.{ℕ, _+_, _*_, _/_, _%_, _<_, _≤_}
+use mathlib.Core.Path.{_≡_, refl, ap, _∙_}
+use mathlib.Core.List.{List}
+use Prim.Native.Nat.{ℕ, _/_, _%_, _<_}
 use native.Mathlib.Omega.{arith}
 use Rattle.keys.specs.declared.label.Sequence.{Sequence}
 use Rattle.keys.specs.declared.label.Sequence.the-variants.{GivenPool, KeyPool}
 use Rattle.keys.specs.Labels.{numberOf, labelOf}
-use Rattle.keys.specs.Encodings.{two, Detail, Purpose, ofSequence, ofPool, encode, InRange, Apart}
+use Rattle.keys.specs.Encodings.{Detail, Purpose, ofSequence, ofPool, encode, InRange, Apart}
 
 -- two bytes tell a number below 65,536
 two-same : (m n : ℕ) → m < 65536 → n < 65536 → m / 256 % 256 ≡ n / 256 % 256 → m % 256 ≡ n % 256 → m ≡ n

@@ -1,9 +1,9 @@
 -- Ranges: what the tests of a call's arguments say, and what the call comes to on each of its ways. Assumes nothing.
-use mathlib.Core.Path.{_≡_, refl, sym, ap, _∙_}
-use mathlib.Core.Bool.{true, false, cond, _&&_}
+use mathlib.Core.Path.{_≡_, sym, ap, _∙_}
+use mathlib.Core.Bool.{true, false, _&&_}
 use mathlib.Core.List.{List}
-use Prim.Native.Nat.{ℕ, _≤_, _%_}
-use lib.Dec.{leb, eqb}
+use Prim.Native.Nat.{ℕ, _≤_}
+use lib.Dec.{leb}
 use lib.ListN.{length}
 use Rattle.std.specs.declared.result.Result.the-variants.{Ok, Err}
 use Rattle.std.proofs.shelf.Tests.{leb-true, and-parts, and-from, and-left, and-right, cond-true, cond-false}
@@ -11,7 +11,8 @@ use Rattle.formats.specs.declared.fault.Cause.the-variants.{Range, RunName}
 use Rattle.formats.specs.Faults.{own}
 use Rattle.formats.specs.RunNames.{legal, every, printable, nameVerdict}
 use Rattle.keys.specs.declared.label.Sequence.{Sequence}
-use Rattle.keys.specs.Sequences.{pooled, layered, sized, indexSequence, sequenceVerdict, indicesLeft}
+use Rattle.keys.specs.Derived.{derivedKey}
+use Rattle.keys.specs.Sequences.{sequenceList, firstHalf, startOf, stream, indexSequence, sized, sequenceVerdict, indicesLeft}
 
 pub legal-short : (name : List ℕ) → legal name ≡ true → length name ≤ 32
 unfolding legal
@@ -36,9 +37,12 @@ module _ (main : List ℕ) (s : Sequence) (radix len : ℕ) (run old : List ℕ)
       sym (cond-false (sized radix len (length old) && legal run) _ _ (and-right (sized radix len (length old)) (legal run) l)),
     )
 
-    pub given : legal run ≡ true
-        → (Ok tt ≡ sequenceVerdict radix len run (length old)) × (indexSequence main s radix len run (length old) ≡ indicesLeft main s radix len run old)
-    given l = (
+    pub given : legal run ≡ true → (key left : List ℕ) → key ≡ derivedKey main (sequenceList s radix len (length old) run)
+        → left ≡ stream (firstHalf key) (startOf key) (length old)
+        → (Ok tt ≡ sequenceVerdict radix len run (length old)) × (left ≡ indicesLeft main s radix len run old)
+    unfolding indexSequence
+    given l key left ek el = (
       sym (verdict-of-name ∙ cond-true (legal run) _ _ l),
-      sym (cond-true (sized radix len (length old) && legal run) _ _ (and-from (sized radix len (length old)) (legal run) h l)),
+      el ∙ ap (λ k. stream (firstHalf k) (startOf k) (length old)) ek
+          ∙ sym (cond-true (sized radix len (length old) && legal run) _ _ (and-from (sized radix len (length old)) (legal run) h l)),
     )

@@ -1,12 +1,11 @@
 -- Roots: what makes the root of a number the root. Assumes nothing.
-use mathlib.Core.Path.{_≡_, refl, sym, ap, subst, _∙_}
-use mathlib.Core.Bool.{true, false, cond}
+use mathlib.Core.Path.{_≡_, ap, _∙_}
 use mathlib.Core.Logic.{⊎-elim}
 use Prim.Native.Nat.{ℕ, zero, suc, _+_, _-_, _*_, _≤_, _<_, min, max}
 use native.Mathlib.Nat.{mul-le-mul, mul-le-mul-left}
 use native.Mathlib.Omega.{arith}
 use lib.Dec.{leb}
-use Rattle.std.proofs.shelf.Tests.{cond-true, cond-false, cond-both, leb-true, leb-false, cases-lt}
+use Rattle.std.proofs.shelf.Tests.{cond-both, leb-true, leb-false, cases-lt}
 use Rattle.keys.specs.Distances.{rootUpTo, root, wOf, w′Of, Rooted}
 
 -- squares keep the order

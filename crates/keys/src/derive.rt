@@ -2,7 +2,7 @@
 ghost use mathlib.Core.List.{_++_};
 ghost use mathlib.Core.Path.{_≡_};
 ghost use Prim.Native.Nat.{_≤_};
-ghost use lib.ListN.{length, take, drop};
+ghost use lib.ListN.{length};
 ghost use Rattle.block_cipher.specs.MacKey.{macKeyOf};
 ghost use Rattle.keys.specs.Derived.{derivedKey};
 ghost use Rattle.keys.specs.Encodings.{ofPool};

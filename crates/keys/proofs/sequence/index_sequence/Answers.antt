@@ -1,8 +1,6 @@
-use mathlib.Core.Path.{_≡_, sym, ap, _∙_}
-use lib.ListN.{length}
+use mathlib.Core.Path.{sym, ap, _∙_}
 use Rattle.std.specs.declared.result.Result.the-variants.{Err}
 use Rattle.block_cipher.specs.MacKey.{macKeyOf}
-use Rattle.keys.specs.Sequences.{firstHalf, startOf, stream, indexSequence}
 use Rattle.keys.proofs.Ranges.{legal-short, refused-range, refused-name, given}
 use Rattle.keys.proofs.sequence.index_sequence.Needs as need
 
@@ -20,12 +18,6 @@ returns-then-not-is-legal c =
     record { value = ap Err (c .own-then-not-is-legal .ensures) ∙ outcome .0; after = outcome .1; cleared = c .drop-key-then-not-is-legal .ensures }
 
 pub returns : need.returns
-unfolding indexSequence
 returns c =
-    let outcome = given (macKeyOf (c .args .mac .now)) (c .args .sequence) (c .args .radix) (c .args .len) (c .args .run .now) (c .args .indices .now) (sym (c .is-sized .ensures) ∙ c .if-not-is-sized .left) (sym (c .is-legal .ensures) ∙ c .if-not-is-legal .left) in
-    let n = length (c .args .indices .now) in
-    record {
-      value = outcome .0;
-      after = c .write-indices .ensures ∙ ap (λ k. stream (firstHalf k) (startOf k) n) (c .derive-sequence .ensures) ∙ outcome .1;
-      cleared = c .drop-key-2 .ensures;
-    }
+    let outcome = given (macKeyOf (c .args .mac .now)) (c .args .sequence) (c .args .radix) (c .args .len) (c .args .run .now) (c .args .indices .now) (sym (c .is-sized .ensures) ∙ c .if-not-is-sized .left) (sym (c .is-legal .ensures) ∙ c .if-not-is-legal .left) _ _ (c .derive-sequence .ensures) (c .write-indices .ensures) in
+    record { value = outcome .0; after = outcome .1; cleared = c .drop-key-2 .ensures }

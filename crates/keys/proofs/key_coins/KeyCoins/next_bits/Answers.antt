@@ -1,7 +1,6 @@
-use mathlib.Core.Path.{_≡_, refl, sym, ap, _∙_}
+use mathlib.Core.Path.{_≡_, refl, ap, _∙_}
 use native.Mathlib.Omega.{arith}
 use lib.ListN.{take, drop}
-use Prim.Native.Nat.{_+_, _*_}
 use Rattle.coins.proofs.Bits.{number-room}
 use Rattle.coins.specs.Coins.{number}
 use Rattle.block_cipher.specs.Keyed.{keyOf}

@@ -1,17 +1,15 @@
-use mathlib.Core.Path.{_≡_, refl, sym, ap, _∙_}
+use mathlib.Core.Path.{_≡_, sym, ap, _∙_}
 use mathlib.Core.Logic.{⊎-elim}
-use Prim.Native.Nat.{_+_, _≤_, _<_}
+use Prim.Native.Nat.{_≤_, _<_}
 use native.Mathlib.Omega.{arith}
-use lib.ListN.{length, drop}
+use lib.ListN.{length}
 use Rattle.std.specs.declared.result.Result.the-variants.{Ok, Err}
-use Rattle.std.proofs.shelf.Lists.{length-drop}
 use Rattle.block_cipher.specs.Keyed.{keyOf}
 use Rattle.formats.specs.declared.fault.Cause.the-variants.{Range}
 use Rattle.formats.specs.Faults.{own}
-use Rattle.coins.specs.Coins.{refusal, bitsOf, taking}
-use Rattle.coins.proofs.Takes.{take-none, take-many, take-short, take-good, answers, leaves, byte-coins-bits}
+use Rattle.coins.specs.Coins.{refusal, taking}
+use Rattle.coins.proofs.Takes.{take-none, take-many, take-short, take-good, answers, leaves}
 use Rattle.keys.specs.KeyBits.{remaining}
-use Rattle.keys.specs.Sequences.{blocks}
 use Rattle.keys.proofs.BlockBits.{coins-left, coins-are-bits}
 use Rattle.keys.proofs.key_coins.methods.KeyCoinsCoins.take.Needs as need
 
