@@ -8,9 +8,12 @@ use text::hex;
 use text::hex::Letters;
 use text::reader::Reader;
 
-// The next word, whatever it is.
+// The next word, whatever it is. Words are parted by one space, so that none is empty.
 pub(crate) fn next<'a>(words: &mut Reader<'a>) -> Result<&'a [u8], Unanswered> {
-    words.word().ok_or(Unanswered::Unreadable)
+    match words.word() {
+        None | Some([]) => Err(Unanswered::Unreadable),
+        Some(word) => Ok(word),
+    }
 }
 
 // No word more.
