@@ -60,7 +60,9 @@ fn answer(rt: &LibcRuntime, line: &[u8]) -> Result<(), Unanswered> {
     match words::next(&mut words)? {
         b"shape" => shape_lines::shape(rt, &mut words),
         b"draw" => coin_lines::draw(rt, &mut words),
+        b"box" => coin_lines::sbox(rt, &mut words),
         b"indices" => key_lines::indices(rt, &mut words),
+        b"keybox" => key_lines::key_sbox(rt, &mut words),
         _ => Err(Unanswered::Unreadable),
     }
 }
