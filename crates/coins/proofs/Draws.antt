@@ -16,7 +16,7 @@ use Rattle.std.specs.declared.option.Option.the-variants.{Some, None}
 use Rattle.std.specs.declared.result.Result.{Result}
 use Rattle.std.specs.declared.result.Result.the-variants.{Ok, Err}
 use Rattle.std.specs.shelf.Lists.{All}
-use Rattle.std.proofs.shelf.Bits.{div-below, le-div, one-shl}
+use Rattle.std.proofs.shelf.Bits.{div-below, le-div}
 use Rattle.std.proofs.shelf.Elements.{all-take, all-drop}
 use Rattle.std.proofs.shelf.Lists.{drop-drop, length-drop, length-take, length-take-le}
 use Rattle.std.proofs.shelf.Tests.{cond-true, cond-false, le-leb, lt-leb, le-ltb, lt-ltb, and-from, and-left, and-right, cases-lt, cases-bool}
@@ -300,10 +300,6 @@ drawn-within k coins =
     (λ m. rw (draw-within k coins h m) (drawn-at-within k coins (firstFrom k coins 0 (tries k coins)) (λ n e. let l = first-within k coins 0 (tries k coins) n e in omega arith)))
     (cases-lt 4096 k))
     (cases-lt k 2)
-
--- the power that the code holds
-pub power-is : (k count : ℕ) → count ≡ width k → k ≤ 4096 → 1 * 2 ^ count % 4294967296 ≡ 2 ^ width k
-power-is k count e h = let w = width-most k h in one-shl count 32 (omega arith) ∙ ap (λ n. 2 ^ n) e
 
 -- what a try gives, in words of what the code holds for the bound, the try and the power
 module _ (k v b a whole : ℕ) (for-bound : b ≡ k) (for-try : a ≡ v) (for-power : whole ≡ 2 ^ width k) where

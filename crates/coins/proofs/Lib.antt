@@ -2,6 +2,7 @@ pub mod Bits
 pub mod Boxes
 pub mod Draws
 pub mod Fair
+pub mod Held
 pub mod Places
 pub mod Swaps
 pub mod Takes

@@ -42,7 +42,7 @@ fn given_by(v: u16, bound: u16, count: u32) -> Option<u16>
     ensures { λ r. ⌜ r ≡ givenBy bound v ⌝ }
 {
     let bound = u32::from(bound);
-    let whole = 1u32 << count;
+    let whole = power_of_two(count);
     let product = u32::from(v) * bound;
     if product % whole < whole % bound {
         return None;
@@ -61,4 +61,13 @@ fn try_width(bound: u16) -> u32
         }
     }
     16
+}
+
+// Two to a power that 32 bits hold.
+fn power_of_two(exponent: u32) -> u32
+    requires { ⌜ exponent < 32 ⌝ }
+    ensures value { λ r. ⌜ r ≡ 2 ^ exponent ⌝ }
+    ensures some { λ r. ⌜ 0 < r ⌝ }
+{
+    1 << exponent
 }

@@ -24,6 +24,13 @@ pub struct Sbox {
 }
 
 impl Sbox {
+    // How many numbers the box permutes.
+    pub fn radix(&self) -> u16
+        ensures { λ r. ⌜ r ≡ now (self .entry) .radix ⌝ }
+    {
+        self.radix
+    }
+
     // The box of a table.
     fn of(radix: u16, forward: [u16; 4096]) -> Sbox
         requires least { ⌜ 2 ≤ radix ⌝ }

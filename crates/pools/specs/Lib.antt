@@ -1,2 +1,4 @@
+pub mod File
 pub mod Pools
 pub mod Rows
+pub mod Shuffled

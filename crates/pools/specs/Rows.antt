@@ -5,9 +5,13 @@
 --   Inside     the entries of rows are below the radix
 --   Undone     each row of one table is undone by that of another
 --   Filled     two tables whose first rows are boxes and their inverses
+--   Answered   a call fills tables with the rows that it should answer
 use mathlib.Core.Path.{_≡_}
 use mathlib.Core.List.{List, [], _∷_, _++_}
 use Prim.Native.Nat.{ℕ, zero, suc, _+_, _*_, _<_}
+use Rattle.std.specs.declared.result.Result.{Result}
+use Rattle.std.specs.declared.result.Result.the-variants.{Ok, Err}
+use Rattle.formats.specs.declared.fault.Fault.{Fault}
 use lib.ListN.{getD, take, drop}
 
 unfoldable pub rowsOf : ℕ → ℕ → List ℕ → List (List ℕ)
@@ -36,3 +40,8 @@ pub record Filled (a count : ℕ) (forward inverse : List ℕ) : Type 0 where
   pub inside-inverse : Inside a count (rowsOf a count inverse)
   pub there : Undone a count (rowsOf a count forward) (rowsOf a count inverse)
   pub back : Undone a count (rowsOf a count inverse) (rowsOf a count forward)
+
+-- a call that fills tables with rows: those that it should answer, or its refusal
+abbrev pub Answered : List (List ℕ) → Result (List (List ℕ)) Fault → Result (Unit {0}) Fault → Type 0
+Answered rows answer (Ok _) = answer ≡ Ok rows
+Answered rows answer (Err f) = answer ≡ Err f

@@ -1,2 +1,3 @@
 // Pools: 256 boxes of one radix, from coins or from a file.
+pub mod laws;
 pub mod pool;

@@ -6,13 +6,6 @@ ghost use Rattle.coins.specs.Sboxes.{entries, inverses, placeOf};
 use crate::sbox::Sbox;
 
 impl Sbox {
-    // How many numbers the box permutes.
-    pub fn radix(&self) -> u16
-        ensures { λ r. ⌜ r ≡ now (self .entry) .radix ⌝ }
-    {
-        self.radix
-    }
-
     // The images of the numbers below the radix, in their order.
     pub fn images(&self) -> &[u16]
         ensures value { λ r. ⌜ now r ≡ entries (now (self .entry)) ⌝ }

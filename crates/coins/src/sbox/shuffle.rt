@@ -19,6 +19,7 @@ impl Sbox {
     pub fn shuffled<C: Coins>(coins: &mut C, radix: u16) -> Result<(Sbox, u128), Fault>
         ensures value { λ r. ⌜ boxed r ≡ counted (making radix (waiting (now (coins .entry)))) ⌝ }
         ensures after { λ _. ⌜ waiting (now (coins .exit)) ≡ after (making radix (waiting (now (coins .entry)))) (waiting (now (coins .entry))) ⌝ }
+        ensures radix { λ r. ⌜ made r (λ drawn. drawn .0 .radix ≡ radix) ⌝ }
     {
         if radix < 2 || radix > 4096 {
             return Err(Fault::own(Cause::Range));
@@ -33,11 +34,7 @@ impl Sbox {
 
 // Fills the first `radix` entries of a table with the numbers below the radix, shuffled. Answers how many coins
 // that took. A draw that finds too few coins is passed up.
-fn shuffle_front<C: Coins>(
-    coins: &mut C,
-    radix: u16,
-    table: &mut [u16],
-) -> Result<u128, Fault>
+fn shuffle_front<C: Coins>(coins: &mut C, radix: u16, table: &mut [u16]) -> Result<u128, Fault>
     requires least { ⌜ 2 ≤ radix ⌝ }
     requires most { ⌜ radix ≤ 4096 ⌝ }
     requires within { ⌜ radix ≤ length (now table) ⌝ }
