@@ -1,0 +1,3 @@
+// The codebook: a cipher over formats that have few codes, by one box over all of them.
+pub mod book;
+pub mod numbers;
