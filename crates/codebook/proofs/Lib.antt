@@ -4,3 +4,5 @@ pub mod Makings
 pub mod Swapped
 pub mod Permuted
 pub mod Calls
+pub mod Causes
+pub mod Shown

@@ -3,24 +3,26 @@
 --   Sound          a codebook's box is a permutation of the numbers of its codes
 --   KeepsLaws      what a sound codebook does as a cipher
 --   Made           what is made from coins is sound, and when nothing is made
+--   Examples       some counts, a codebook and what it does
 use mathlib.Core.Path.{_≡_}
 use mathlib.Core.Bool.{true}
-use mathlib.Core.List.{List}
+use mathlib.Core.List.{List, [], _∷_}
 use Prim.Native.Nat.{ℕ, _<_, _≤_, _^_}
-use Rattle.std.specs.declared.option.Option.the-variants.{None}
+use Rattle.std.specs.declared.option.Option.the-variants.{None, Some}
 use Rattle.std.specs.declared.result.Result.the-variants.{Ok, Err}
 use Rattle.std.specs.shelf.Lists.{All}
+use Rattle.formats.specs.declared.alphabet.Alphabet.the-variants.{Decimal, Hex, Upper, Alphanumeric}
 use Rattle.formats.specs.declared.fault.Cause.the-variants.{ShapeNotTaken, CoinsShort}
 use Rattle.formats.specs.declared.fault.Fault.{Fault}
 use Rattle.formats.specs.Alphabets.{radixOf}
 use Rattle.formats.specs.Codes.{Code}
 use Rattle.formats.specs.Faults.{own}
-use Rattle.formats.specs.Forms.{Form}
+use Rattle.formats.specs.Forms.{Form, formOf}
 use Rattle.coins.specs.Boxes.{Permutation}
-use Rattle.coins.specs.Coins.{refusal}
+use Rattle.coins.specs.Coins.{bitsOf, refusal}
 use Rattle.ciphers.specs.Meanings.{Laws}
-use Rattle.codebook.specs.Books.{Book, makingBook, meaningOf}
-use Rattle.codebook.specs.Numbers.{codeCount, mostCodes}
+use Rattle.codebook.specs.Books.{Book, bookOf, makingBook, meaningOf}
+use Rattle.codebook.specs.Numbers.{codeCount, mostCodes, fewCodes}
 
 pub record PermutesCodes (f : Form) (go : List ℕ → List ℕ) : Type 0 where
   -- a code goes to a code
@@ -56,4 +58,27 @@ pub record Made (f : Form) (coins : List ℕ) : Type 0 where
   -- fewer are refused for want of coins alone
   pub few : codeCount f ≤ mostCodes → 1 ≤ f .len → (fault : Fault) → makingBook f coins .answer ≡ Err fault → fault ≡ short
   -- what is made has the form's alphabet and length, and a permutation for its box
-  pub sound : (b : Book) → makingBook f coins .answer ≡ Ok b → (b .alphabet ≡ f .alphabet) × (b .len ≡ f .len) × Sound b
+  pub sound : All (λ b. b < 2) coins → (b : Book) → makingBook f coins .answer ≡ Ok b → (b .alphabet ≡ f .alphabet) × (b .len ≡ f .len) × Sound b
+
+-- eight bytes of coins, and the table that they make: each number goes to the next, and the last to the first
+abbrev pub someCoins : List ℕ
+someCoins = bitsOf (0x01 ∷ 0x01 ∷ 0x02 ∷ 0x04 ∷ 0x08 ∷ 0x10 ∷ 0x41 ∷ 0x08 ∷ [])
+
+abbrev pub nextDigit : Book
+nextDigit = bookOf (formOf Decimal 1 0) (1 ∷ 2 ∷ 3 ∷ 4 ∷ 5 ∷ 6 ∷ 7 ∷ 8 ∷ 9 ∷ 0 ∷ [])
+
+pub record Examples (f : Form) (run : List ℕ) (rounds : ℕ) : Type 0 where
+  pub two-digits : fewCodes (formOf Decimal 2 rounds) ≡ Some 100
+  pub three-digits : fewCodes (formOf Decimal 3 rounds) ≡ Some 1000
+  pub four-digits : fewCodes (formOf Decimal 4 rounds) ≡ None
+  pub one-hex : fewCodes (formOf Hex 1 rounds) ≡ Some 16
+  pub three-hex : fewCodes (formOf Hex 3 rounds) ≡ Some 4096
+  pub two-letters : fewCodes (formOf Upper 2 rounds) ≡ Some 676
+  pub three-letters : fewCodes (formOf Upper 3 rounds) ≡ None
+  pub two-signs : fewCodes (formOf Alphanumeric 2 rounds) ≡ Some 1296
+  pub three-signs : fewCodes (formOf Alphanumeric 3 rounds) ≡ None
+  pub most-signs : fewCodes (formOf Alphanumeric 32 rounds) ≡ None
+  pub made-of-coins : makingBook (formOf Decimal 1 0) someCoins .answer ≡ Ok nextDigit
+  pub nine : meaningOf nextDigit .forward f run (9 ∷ []) ≡ 0 ∷ []
+  pub four : meaningOf nextDigit .forward f run (4 ∷ []) ≡ 5 ∷ []
+  pub five : meaningOf nextDigit .backward f run (5 ∷ []) ≡ 4 ∷ []
