@@ -67,7 +67,7 @@ module _ (count : ℕ) (table : List ℕ) (p : Permutation count table) where
       ap (λ n. valueOr (nth table n) 0) e ∙ image-is (at .0) (at .1) ∙ at .2
 
 -- alphabets with the same letter are the same
-same-letter : (a b : Alphabet) → letterOf a ≡ letterOf b → a ≡ b
+pub same-letter : (a b : Alphabet) → letterOf a ≡ letterOf b → a ≡ b
 same-letter a b e = same-some a b (sym (own-letter a) ∙ ap alphabetOf e ∙ own-letter b)
 
 pub taken-same : (b : Book) (f : Form) → takenBy b f ≡ true → (b .alphabet ≡ f .alphabet) × (b .len ≡ f .len)

@@ -7,6 +7,7 @@ use crate::numbers::read_number;
 use crate::numbers::write_number;
 use ciphers::checks::check;
 use ciphers::cipher::FormatCipher;
+use formats::alphabet::AlphabetPartialEq;
 use formats::fault::Fault;
 use formats::shape::Shape;
 
@@ -14,7 +15,7 @@ pub impl FormatCipher for Codebook as CodebookCipher {
     ghost meaning = { λ s. meaningOf (book s) };
 
     fn takes(&self, shape: &Shape) -> bool {
-        self.alphabet.letter() == shape.alphabet().letter() && self.len == shape.len()
+        self.alphabet == shape.alphabet() && self.len == shape.len()
     }
 
     fn forward(&mut self, shape: &Shape, run: &[u8], code: &mut [u8]) -> Result<(), Fault> {
