@@ -3,6 +3,7 @@
 --   bookOf      the codebook of a form and a table
 --   makingBook  what it is to make a codebook for a form from coins
 --   takenBy     the forms that a codebook takes, whatever their rounds
+--   numbered    what both swaps begin with: the checks, and then the code's number
 --   through     a code's number through a map, written as a code again
 --   meaningOf   what a codebook means as a cipher
 use mathlib.Core.Bool.{Bool, cond, _&&_}
@@ -25,6 +26,7 @@ use Rattle.coins.specs.Boxes.{making}
 use Rattle.coins.specs.Coins.{Outcome, refusal}
 use Rattle.coins.specs.Sboxes.{placeOf}
 use Rattle.ciphers.specs.Meanings.{Meaning}
+use Rattle.ciphers.specs.Swaps.{checked}
 use Rattle.codebook.specs.Numbers.{number, written, codeCount, mostCodes}
 
 pub record Book : Type 0 where
@@ -52,6 +54,13 @@ sameAlphabet a b = eqb (letterOf a) (letterOf b)
 
 unfoldable pub takenBy : Book → Form → Bool
 takenBy b f = sameAlphabet (b .alphabet) (f .alphabet) && eqb (b .len) (f .len)
+
+abbrev pub andNumber : Result Unit Fault → ℕ → Result ℕ Fault
+andNumber (Ok u) n = Ok n
+andNumber (Err fault) n = Err fault
+
+unfoldable pub numbered : Book → Form → List ℕ → List ℕ → Result ℕ Fault
+numbered b f run c = andNumber (checked (takenBy b f) f run c) (number (radixOf (b .alphabet)) c)
 
 unfoldable pub through : Book → (ℕ → Option ℕ) → List ℕ → List ℕ
 through b map c = written (radixOf (b .alphabet)) (b .len) (valueOr (map (number (radixOf (b .alphabet)) c)) 0)

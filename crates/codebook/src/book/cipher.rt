@@ -1,6 +1,10 @@
 // The codebook as a cipher over formats.
 ghost use mathlib.Core.Path.{_≡_};
-ghost use Rattle.codebook.specs.Books.{meaningOf};
+ghost use Rattle.std.specs.Options.{valueOr};
+ghost use Rattle.std.specs.shelf.Maps.{nth};
+ghost use Rattle.formats.specs.Shapes.{form};
+ghost use Rattle.coins.specs.Sboxes.{placeOf};
+ghost use Rattle.codebook.specs.Books.{numbered, meaningOf};
 ghost use Rattle.codebook.specs.Codebooks.{book};
 use crate::book::Codebook;
 use crate::numbers::read_number;
@@ -11,6 +15,7 @@ use formats::alphabet::AlphabetPartialEq;
 use formats::fault::Fault;
 use formats::shape::Shape;
 
+// It takes the shapes of its alphabet and length, whatever their rounds, bars nothing, and is the same for every run.
 pub impl FormatCipher for Codebook as CodebookCipher {
     ghost meaning = { λ s. meaningOf (book s) };
 
@@ -19,20 +24,40 @@ pub impl FormatCipher for Codebook as CodebookCipher {
     }
 
     fn forward(&mut self, shape: &Shape, run: &[u8], code: &mut [u8]) -> Result<(), Fault> {
-        check(self.takes(shape), shape, run, code)?;
-        let radix = self.alphabet.radix();
-        let number = read_number(radix, code);
-        let image = self.sbox.apply(number).unwrap_or(0);
-        write_number(radix, image, code);
+        let number = self.number_of(shape, run, code)?;
+        let image = self.image(number);
+        write_number(self.alphabet.radix(), image, code);
         Ok(())
     }
 
     fn backward(&mut self, shape: &Shape, run: &[u8], code: &mut [u8]) -> Result<(), Fault> {
-        check(self.takes(shape), shape, run, code)?;
-        let radix = self.alphabet.radix();
-        let image = read_number(radix, code);
-        let number = self.sbox.undo(image).unwrap_or(0);
-        write_number(radix, number, code);
+        let image = self.number_of(shape, run, code)?;
+        let number = self.preimage(image);
+        write_number(self.alphabet.radix(), number, code);
         Ok(())
+    }
+}
+
+impl Codebook {
+    // The number of a code that passes the checks. It is below the box's radix.
+    fn number_of(&self, shape: &Shape, run: &[u8], code: &[u8]) -> Result<u16, Fault>
+        ensures { λ r. ⌜ r ≡ numbered (book (now (self .entry))) (form (now (shape .entry))) (now (run .entry)) (now (code .entry)) ⌝ }
+    {
+        check(self.takes(shape), shape, run, code)?;
+        Ok(read_number(self.alphabet.radix(), code))
+    }
+
+    // The image of a number below the radix.
+    fn image(&self, number: u16) -> u16
+        ensures { λ r. ⌜ r ≡ valueOr (nth (book (now (self .entry)) .table) number) 0 ⌝ }
+    {
+        self.sbox.apply(number).unwrap_or(0)
+    }
+
+    // The number that has an image.
+    fn preimage(&self, image: u16) -> u16
+        ensures { λ r. ⌜ r ≡ valueOr (placeOf image (book (now (self .entry)) .table)) 0 ⌝ }
+    {
+        self.sbox.undo(image).unwrap_or(0)
     }
 }

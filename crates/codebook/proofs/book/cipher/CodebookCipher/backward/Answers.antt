@@ -1,32 +1,23 @@
-use mathlib.Core.Path.{_≡_, refl, sym, ap, _∙_}
-use mathlib.Core.List.{List}
-use Prim.Native.Nat.{ℕ}
-use native.Mathlib.Omega.{arith}
+use mathlib.Core.Path.{refl, sym, ap, _∙_}
 use Rattle.std.specs.declared.result.Result.the-variants.{Err}
 use Rattle.std.proofs.shelf.Results.{err-from-errBy}
 use Rattle.formats.specs.Shapes.{form}
 use Rattle.coins.specs.Sboxes.{placeOf}
 use Rattle.ciphers.specs.Swaps.{answer, left}
 use Rattle.codebook.specs.Codebooks.{book}
-use Rattle.codebook.proofs.Calls.{call-refused, readable, call-passed}
+use Rattle.codebook.proofs.Calls.{call-refused, call-passed}
 use Rattle.codebook.proofs.book.cipher.CodebookCipher.backward.Needs as need
 
-pub returns-in-Break-check : need.returns-in-Break-check
-returns-in-Break-check c =
+pub returns-in-Break-image : need.returns-in-Break-image
+returns-in-Break-image c =
     let b = book (c .args .self .now) in
     let p = err-from-errBy (c .from-residual .result) (c .from-residual .ensures .1) in
-    let refused = call-refused b (form (c .args .shape .now)) (c .args .run .now) (c .args .code .now) (c .takes .ensures) (λ y. placeOf y (b .table)) _ (c .in-Break-check .ensures tt) in
+    let refused = call-refused b (form (c .args .shape .now)) (c .args .run .now) (c .args .code .now) (λ y. placeOf y (b .table)) (c .in-Break-image .ensures tt) in
     record { value = p .1 ∙ ap Err (p .2) ∙ sym (ap answer refused); after = sym (ap (λ o. left o (c .args .code .now)) refused); same = refl }
-
-pub read-number-image-requires : need.read-number-image-requires
-read-number-image-requires c κs =
-    let s = c .args .self .now in
-    let r = readable (book s) (form (c .args .shape .now)) (c .args .run .now) (c .args .code .now) (c .takes .ensures) (c .in-Continue-check .ensures tt) (c .radix-radix .ensures) (omega arith) in
-    record { symbols = r .0; few = r .1 }
 
 pub returns : need.returns
 returns c =
     let b = book (c .args .self .now) in
-    let done = call-passed b (form (c .args .shape .now)) (c .args .run .now) (c .args .code .now) (c .takes .ensures) (c .in-Continue-check .ensures tt) (λ y. placeOf y (b .table))
-    (c .radix-radix .ensures) (c .read-number-image .ensures) (c .undo .ensures) (c .unwrap-or-number .ensures) (c .write-number .ensures) in
+    let done = call-passed b (form (c .args .shape .now)) (c .args .run .now) (c .args .code .now) (λ y. placeOf y (b .table))
+    (c .in-Continue-image .ensures tt) (c .preimage-number .ensures) (c .radix .ensures) (c .write-number .ensures) in
     record { value = sym (ap answer done); after = sym (ap (λ o. left o (c .args .code .now)) done); same = refl }

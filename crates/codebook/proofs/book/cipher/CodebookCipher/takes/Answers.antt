@@ -21,5 +21,5 @@ returns-else-eq c =
     let here = c .args .self .now in
     let there = c .args .shape .now in
     let apart : sameAlphabet (here .alphabet) (there .alphabet) ≡ false =
-        ne-eqb _ _ (λ e. c .if-eq .ensures tt (same-letter (here .alphabet) (there .alphabet) e ∙ sym (c .alphabet .ensures))) in
+    ne-eqb _ _ (λ e. c .if-eq .ensures tt (same-letter (here .alphabet) (there .alphabet) e ∙ sym (c .alphabet .ensures))) in
     c .if-eq .left ∙ ap (λ t. t && eqb (here .len) (there .len)) (sym apart)
