@@ -10,10 +10,8 @@ use Rattle.std.specs.declared.option.Option.{Option}
 use Rattle.std.specs.declared.result.Result.{Result}
 use Rattle.std.specs.declared.result.Result.the-variants.{Ok, Err}
 use Rattle.std.specs.shelf.Lists.{All}
-use Rattle.formats.specs.declared.alphabet.Alphabet.{Alphabet}
 use Rattle.formats.specs.declared.fault.Fault.{Fault}
 use Rattle.formats.specs.Alphabets.{radixOf}
-use Rattle.formats.specs.Codes.{Code}
 use Rattle.formats.specs.Forms.{Form}
 use Rattle.formats.proofs.Variants.{err≢ok, same-ok}
 use Rattle.coins.specs.declared.sbox.Sbox.{Sbox}

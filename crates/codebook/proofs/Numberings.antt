@@ -1,9 +1,9 @@
 -- Codes and numbers go one to one. Assumes nothing.
 use mathlib.Core.Path.{_≡_, refl, sym, ap, subst, _∙_}
-use mathlib.Core.List.{List, [], _∷_, _++_}
-use Prim.Native.Nat.{ℕ, zero, suc, _+_, _-_, _*_, _/_, _%_, _^_, _<_, _≤_}
+use mathlib.Core.List.{List, [], _∷_}
+use Prim.Native.Nat.{ℕ, zero, suc, _+_, _-_, _*_, _/_, _%_, _^_, _<_}
 use native.Mathlib.Omega.{arith}
-use native.Mathlib.Nat.{zero-add, add-assoc, add-comm, add-mul, mul-assoc, mul-one, pow-zero, pow-suc, pow-succ', one-le-pow, mod-lt, mod-eq-of-lt, add-mul-div-right, add-mul-mod-self-right}
+use native.Mathlib.Nat.{add-assoc, add-comm, add-mul, mul-assoc, mul-one, pow-zero, pow-succ', one-le-pow, mod-lt, mod-eq-of-lt, add-mul-div-right, add-mul-mod-self-right}
 use lib.Arith.{digits-div, mod-mul}
 use lib.ListN.{length}
 use Rattle.std.specs.shelf.Digits.{numberAfter}

@@ -2,14 +2,14 @@
 use mathlib.Core.Path.{_≡_, refl, sym, ap, subst, _∙_}
 use mathlib.Core.Bool.{true}
 use mathlib.Core.List.{List, [], _∷_}
-use Prim.Native.Nat.{ℕ, zero, suc, _+_, _^_, _<_, _≤_}
+use Prim.Native.Nat.{ℕ, zero, suc, _+_, _^_, _<_}
 use native.Mathlib.Nat.{add-zero}
 use native.Mathlib.Omega.{arith}
 use lib.Dec.{eqb}
 use lib.ListN.{length, getD}
 use Rattle.std.specs.Options.{valueOr}
 use Rattle.std.specs.declared.option.Option.{Option}
-use Rattle.std.specs.declared.option.Option.the-variants.{None, Some}
+use Rattle.std.specs.declared.option.Option.the-variants.{Some}
 use Rattle.std.specs.shelf.Lists.{All}
 use Rattle.std.specs.shelf.Maps.{nth}
 use Rattle.std.proofs.shelf.Maps.{nth-getD}
@@ -22,7 +22,7 @@ use Rattle.formats.proofs.Symbols.{own-letter}
 use Rattle.formats.proofs.Variants.{same-some}
 use Rattle.coins.specs.Boxes.{Permutation}
 use Rattle.coins.specs.Sboxes.{placeFrom, placeOf}
-use Rattle.ciphers.specs.Meanings.{Meaning, Free, Undone, Laws}
+use Rattle.ciphers.specs.Meanings.{Free, Undone, Laws}
 use Rattle.codebook.specs.BookLaws.{PermutesCodes, Sound, KeepsLaws}
 use Rattle.codebook.specs.Books.{Book, takenBy, through, meaningOf}
 use Rattle.codebook.specs.Numbers.{number, written}

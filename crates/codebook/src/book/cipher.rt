@@ -1,14 +1,16 @@
 // The codebook as a cipher over formats.
 ghost use mathlib.Core.Path.{_≡_};
+ghost use Prim.Native.Nat.{_^_, _≤_, _<_};
+ghost use lib.ListN.{length};
 ghost use Rattle.std.specs.Options.{valueOr};
+ghost use Rattle.std.specs.shelf.Lists.{All};
 ghost use Rattle.std.specs.shelf.Maps.{nth};
 ghost use Rattle.formats.specs.Shapes.{form};
 ghost use Rattle.coins.specs.Sboxes.{placeOf};
 ghost use Rattle.codebook.specs.Books.{numbered, meaningOf};
 ghost use Rattle.codebook.specs.Codebooks.{book};
+ghost use Rattle.codebook.specs.Numbers.{number as numberOf, written};
 use crate::book::Codebook;
-use crate::numbers::read_number;
-use crate::numbers::write_number;
 use ciphers::checks::check;
 use ciphers::cipher::FormatCipher;
 use formats::alphabet::AlphabetPartialEq;
@@ -59,5 +61,30 @@ impl Codebook {
         ensures { λ r. ⌜ r ≡ valueOr (placeOf image (book (now (self .entry)) .table)) 0 ⌝ }
     {
         self.sbox.undo(image).unwrap_or(0)
+    }
+}
+
+// The number that a code reads as.
+fn read_number(radix: u8, code: &[u8]) -> u16
+    requires symbols { ⌜ All (λ x. x < radix) (now code) ⌝ }
+    requires few { ⌜ radix ^ length (now code) ≤ 4096 ⌝ }
+    ensures { λ r. ⌜ r ≡ numberOf radix (now (code .entry)) ⌝ }
+{
+    let mut number = 0u16;
+    for x in code {
+        number = number * u16::from(radix) + u16::from(*x);
+    }
+    number
+}
+
+// Writes a number as a code, from the last symbol to the first.
+fn write_number(radix: u8, number: u16, code: &mut [u8])
+    requires { ⌜ 0 < radix ⌝ }
+    ensures { λ _. ⌜ now (code .exit) ≡ written radix (length (now (code .entry))) number ⌝ }
+{
+    let mut rest = number;
+    for i in (0..code.len()).rev() {
+        code[i] = (rest % u16::from(radix)) as u8;
+        rest /= u16::from(radix);
     }
 }

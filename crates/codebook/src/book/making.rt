@@ -7,7 +7,7 @@ ghost use Rattle.codebook.specs.BookLaws.{Sound};
 ghost use Rattle.codebook.specs.Books.{makingBook};
 ghost use Rattle.codebook.specs.Codebooks.{book, booked};
 use crate::book::Codebook;
-use crate::numbers::count_codes;
+use crate::count::count_codes;
 use coins::sbox::Sbox;
 use coins::source::Coins;
 use formats::fault::Cause;

@@ -6,7 +6,7 @@ use Rattle.std.specs.declared.option.Option.the-variants.{Some}
 use Rattle.formats.specs.Alphabets.{radixOf}
 use Rattle.formats.specs.Shapes.{form}
 use Rattle.codebook.proofs.Counts.{few-symbols, power-more, too-many, few-enough}
-use Rattle.codebook.proofs.numbers.count_codes.Needs as need
+use Rattle.codebook.proofs.count.count_codes.Needs as need
 
 pub loop-holds : need.loop-holds
 loop-holds c = (sym (pow-zero (c .from-radix .result)), omega arith)

@@ -3,7 +3,7 @@ use mathlib.Core.List.{_++_}
 use Prim.Native.Nat.{_-_, _/_, _^_}
 use lib.ListN.{length, take}
 use Rattle.codebook.specs.Numbers.{written}
-use Rattle.codebook.proofs.numbers.write_number.Given as given
+use Rattle.codebook.proofs.book.cipher.write_number.Given as given
 
 abbrev pub Inv-loop-i : given.InvT-loop-i
 Inv-loop-i l =

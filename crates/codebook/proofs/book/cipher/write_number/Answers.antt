@@ -1,10 +1,8 @@
-use mathlib.Core.Path.{_≡_, sym, ap, subst, _∙_}
-use mathlib.Core.List.{_++_}
-use Prim.Native.Nat.{ℕ, _-_, _/_, _%_, _^_}
-use native.Mathlib.Omega.{arith}
-use lib.ListN.{length, set, take}
+use mathlib.Core.Path.{ap, _∙_}
+use Prim.Native.Nat.{_-_, _/_, _%_}
+use lib.ListN.{set}
 use Rattle.codebook.proofs.Counts.{none-written, one-written, all-written}
-use Rattle.codebook.proofs.numbers.write_number.Needs as need
+use Rattle.codebook.proofs.book.cipher.write_number.Needs as need
 
 pub loop-i-holds : need.loop-i-holds
 loop-i-holds c = none-written (c .args .radix) (c .args .number) (c .args .code .now)

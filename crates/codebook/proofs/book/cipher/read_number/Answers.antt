@@ -4,7 +4,7 @@ use Rattle.std.proofs.shelf.Digits.{number-more}
 use Rattle.std.proofs.shelf.Lists.{take-all}
 use Rattle.codebook.specs.Numbers.{number}
 use Rattle.codebook.proofs.Counts.{room-for}
-use Rattle.codebook.proofs.numbers.read_number.Needs as need
+use Rattle.codebook.proofs.book.cipher.read_number.Needs as need
 
 pub mul-number : need.mul-number
 mul-number c =
