@@ -1,0 +1,4 @@
+pub mod Numbers
+pub mod Books
+pub mod Codebooks
+pub mod BookLaws
