@@ -1,4 +1,6 @@
 // Reads a session's lines from standard input, and prints what each is answered.
+#![tactic(auto)]
+
 use sessions::serve::serve;
 use std::io;
 

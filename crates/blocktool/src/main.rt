@@ -1,5 +1,7 @@
 // Reads lines from standard input, and prints what each is answered: sixteen bytes in hexadecimal, nothing, or
 // why the line is unreadable.
+#![tactic(auto)]
+
 use block_lines::answer::answer;
 use std::io;
 use std::io::{BufRead, BufReader, Write};

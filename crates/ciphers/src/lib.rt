@@ -1,4 +1,6 @@
 // Ciphers over formats: what each promises, and the ciphers themselves.
+#![tactic(auto)]
+
 pub mod checks;
 pub mod cipher;
 mod core;

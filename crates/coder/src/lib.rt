@@ -1,4 +1,6 @@
 // The lane coder: eight lanes, each with its own run, over one cipher.
+#![tactic(auto)]
+
 pub mod coder;
 mod lanes;
 pub mod list;

@@ -1,4 +1,6 @@
 // What the lines of the program `bincards` spell.
+#![tactic(auto)]
+
 pub mod command;
 pub mod first;
 pub mod laws;

@@ -1,2 +1,4 @@
 // How a refusal is told.
+#![tactic(auto)]
+
 pub mod fault;

@@ -1,4 +1,6 @@
 // What follows from the main key: derived keys, index sequences, and coins.
+#![tactic(auto)]
+
 mod derive;
 pub mod distances;
 pub mod encoding;

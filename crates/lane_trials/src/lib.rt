@@ -1,4 +1,6 @@
 // The law over every list of calls at work, over ciphers that exist.
+#![tactic(auto)]
+
 ghost use Rattle.std.specs.Prelude.{◌≡◌, MatchResult};
 ghost use Rattle.ciphers.specs.Held.{network_of};
 ghost use Rattle.ciphers.specs.Networks.{networked};

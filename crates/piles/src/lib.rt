@@ -1,4 +1,6 @@
 // Piles: layers over layers over ciphers, put together, and worked examples of all the parts.
+#![tactic(auto)]
+
 pub mod laws;
 pub mod mask;
 pub mod round_trip;

@@ -1,4 +1,6 @@
 // Rules: which codes of a shape are wanted.
+#![tactic(auto)]
+
 mod codes;
 pub mod laws;
 pub mod luhn;

@@ -1,6 +1,8 @@
 // Serves many sessions, one after the other, each as the program `bincards` serves its standard input. A line `=`
 // ends a session, and a line `==` ends one whose last line lacks its LF; what a session prints is followed by a line
 // `=`. The bytes of a session are handed on a few at a time, so that lines come in pieces.
+#![tactic(auto)]
+
 use sessions::serve::serve;
 use sips::Sips;
 use std::io;

@@ -1,6 +1,8 @@
 // Masks codes by the FAST network and unmasks them again, a line each, to hold the network to tokens from outside.
 // A line has where the pool comes from (`key`, or `file` for the same pool read as a file), the key, the run, the
 // shape and the code; it prints the masked code and what unmasking gives. Lines that begin with `#` are printed.
+#![tactic(auto)]
+
 ghost use Rattle.std.specs.Prelude.{◌≤◌};
 
 use block_cipher::cmac::Cmac;

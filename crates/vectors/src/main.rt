@@ -1,4 +1,6 @@
 // Holds the libraries to values from outside: reads lines from standard input, and prints what each is answered.
+#![tactic(auto)]
+
 mod coin_lines;
 mod key_lines;
 mod shape_lines;
