@@ -10,9 +10,9 @@ use faults::fault::{Cause, Fault};
 // takes a few more coins than the bound has bits, and is either accepted or rejected; the draw goes on until a
 // try is accepted or the coins are too few for another. The coins of rejected tries stay taken.
 pub fn draw_below<C: Coins>(coins: &mut C, bound: u16) -> Result<(u16, u128), Fault>
-    ensures value { result ≡ counted (drawing bound (waiting coins.old)) }
-    ensures after { waiting coins.new ≡ after (drawing bound (waiting coins.old)) (waiting coins.old) }
-    ensures bits { OnOk result (Bits (waiting coins.old)) }
+    ensures value { result ≡ counted (drawing bound (C.waiting coins.old)) }
+    ensures after { C.waiting coins.new ≡ after (drawing bound (C.waiting coins.old)) (C.waiting coins.old) }
+    ensures bits { OnOk result (Bits (C.waiting coins.old)) }
     ensures below { IfOk result (λ drawn. drawn.0 < bound) }
 {
     if bound < 2 || bound > 4096 {

@@ -14,8 +14,8 @@ impl Sbox {
     // Makes a box of a radix, 2 to 4,096, from coins, and answers it with the number of coins taken. Where the
     // coins are too few, those of finished tries stay taken.
     pub fn shuffled<C: Coins>(coins: &mut C, radix: u16) -> Result<(Sbox, u128), Fault>
-        ensures value { boxed result ≡ counted (making radix (waiting coins.old)) }
-        ensures after { waiting coins.new ≡ after (making radix (waiting coins.old)) (waiting coins.old) }
+        ensures value { boxed result ≡ counted (making radix (C.waiting coins.old)) }
+        ensures after { C.waiting coins.new ≡ after (making radix (C.waiting coins.old)) (C.waiting coins.old) }
         ensures radix { IfOk result (λ drawn. drawn.0.radix ≡ radix) }
     {
         if radix < 2 || radix > 4096 {
@@ -35,8 +35,8 @@ fn shuffle_front<C: Coins>(coins: &mut C, radix: u16, table: &mut [u16]) -> Resu
     requires least { 2 ≤ radix }
     requires most { radix ≤ 4096 }
     requires within { radix ≤ length table.old }
-    ensures value { MadeIn (take radix table.new) (making radix (waiting coins.old)) result }
-    ensures after { waiting coins.new ≡ after (making radix (waiting coins.old)) (waiting coins.old) }
+    ensures value { MadeIn (take radix table.new) (making radix (C.waiting coins.old)) result }
+    ensures after { C.waiting coins.new ≡ after (making radix (C.waiting coins.old)) (C.waiting coins.old) }
     ensures permutes { OnOk result (Permutation radix (take radix table.new)) }
 {
     shuffle(coins, &mut table[0..radix as usize])
@@ -46,9 +46,9 @@ fn shuffle_front<C: Coins>(coins: &mut C, radix: u16, table: &mut [u16]) -> Resu
 fn shuffle<C: Coins>(coins: &mut C, table: &mut [u16]) -> Result<u128, Fault>
     requires least { 2 ≤ length table.old }
     requires most { length table.old ≤ 4096 }
-    ensures value { MadeIn table.new (making (length table.old) (waiting coins.old)) result }
-    ensures after { waiting coins.new ≡ after (making (length table.old) (waiting coins.old)) (waiting coins.old) }
-    ensures bits { OnOk result (Bits (waiting coins.old)) }
+    ensures value { MadeIn table.new (making (length table.old) (C.waiting coins.old)) result }
+    ensures after { C.waiting coins.new ≡ after (making (length table.old) (C.waiting coins.old)) (C.waiting coins.old) }
+    ensures bits { OnOk result (Bits (C.waiting coins.old)) }
 {
     count_up(table);
     swap_down(coins, table)
@@ -68,9 +68,9 @@ fn count_up(table: &mut [u16])
 fn swap_down<C: Coins>(coins: &mut C, table: &mut [u16]) -> Result<u128, Fault>
     requires least { 2 ≤ length table.old }
     requires most { length table.old ≤ 4096 }
-    ensures value { MadeIn table.new (swaps (length table.old - 1) table.old (waiting coins.old)) result }
-    ensures after { waiting coins.new ≡ after (swaps (length table.old - 1) table.old (waiting coins.old)) (waiting coins.old) }
-    ensures bits { OnOk result (Bits (waiting coins.old)) }
+    ensures value { MadeIn table.new (swaps (length table.old - 1) table.old (C.waiting coins.old)) result }
+    ensures after { C.waiting coins.new ≡ after (swaps (length table.old - 1) table.old (C.waiting coins.old)) (C.waiting coins.old) }
+    ensures bits { OnOk result (Bits (C.waiting coins.old)) }
 {
     let mut taken = 0u128;
     for i in (1..table.len()).rev() {

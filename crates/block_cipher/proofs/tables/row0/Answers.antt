@@ -6,4 +6,4 @@ use Rattle.block_cipher.proofs.tables.row0.Goals as goal
 
 pub returns : goal.returns
 unfolding x_times mul_low mul square squares inverse bit affine_bit from_bits affine sbox
-returns c = ap quad c.word-at.ensures ∙ mixed_by twice once once thrice _ refl tt c.args.x (search rules)
+returns c = ap quad c.word_at.ensures ∙ mixed_by twice once once thrice _ refl tt c.args.x (search rules)

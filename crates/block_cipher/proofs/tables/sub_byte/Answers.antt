@@ -6,6 +6,6 @@ use Rattle.block_cipher.proofs.tables.sub_byte.Goals as goal
 pub returns : goal.returns
 unfolding x_times mul_low mul square squares inverse bit affine_bit from_bits affine sbox
 returns c = record {
-  value = c.byte-at.ensures ∙ substituted _ refl tt c.args.x (search rules);
+  value = c.byte_at.ensures ∙ substituted _ refl tt c.args.x (search rules);
   inverse = inverted c.args.x (search rules);
 }

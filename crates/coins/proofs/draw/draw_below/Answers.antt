@@ -15,7 +15,7 @@ loop-v-init g c =
     record {
       low = c.if-bound-lt2.false;
       high = c.if-bound-gt4096.false;
-      right = c.try-width-count.ensures;
+      right = c.try_width-count.ensures;
       n = 0;
       passed = passed_none c.args.bound (g.C.Coins.waiting c.args.coins.now);
     }
@@ -25,23 +25,23 @@ returns-in-Err g c =
     let took = c.in-Err.ensures in
     let done = turn_short c.loop-v.invariant c.in-Err.fault took.value in
     record {
-      value = ap Err c.passed-up.ensures ∙ ap counted (sym done);
+      value = ap Err c.passed_up.ensures ∙ ap counted (sym done);
       after = took.after ∙ short_left c.loop-v.invariant c.in-Err.fault took.value;
       bits = tt;
       below = tt;
     }
 
-pub overflow-add-taken : goal.overflow-add-taken
-overflow-add-taken g c =
+pub overflow_add-taken : goal.overflow_add-taken
+overflow_add-taken g c =
     let took = c.in-Ok.ensures in
     omega (arith, turn_fits c.loop-v.invariant c.in-Ok.v took.value took.bits, c.from-taken.ensures)
 
-pub given-by-requires : goal.given-by-requires
-given-by-requires g c =
+pub given_by-requires : goal.given_by-requires
+given_by-requires g c =
     let took = c.in-Ok.ensures in
     record {
       bound = (c.if-bound-lt2.false, c.if-bound-gt4096.false);
-      count = c.try-width-count.ensures;
+      count = c.try_width-count.ensures;
       coins = turn_below c.loop-v.invariant c.in-Ok.v took.value took.bits.each;
     }
 
@@ -64,10 +64,10 @@ loop-v-smaller g c =
 pub loop-v-preserved : goal.loop-v-preserved
 loop-v-preserved g c =
     let took = c.in-Ok.ensures in
-    let again = turn_again c.loop-v.invariant c.in-Ok.v took.value took.bits c.in-default.ensures in
+    let again = turn_again c.loop-v.invariant c.in-Ok.v took.value took.bits c.in_default.ensures in
     let k = c.args.bound in
     let coins = g.C.Coins.waiting c.args.coins.now in
-    let count = c.try-width-count.result in
+    let count = c.try_width-count.result in
     let at_rest : Turn k coins count (g.C.Coins.waiting c.take.new.self) (c.loop-v.taken + count) =
     subst (λ (l : List ℕ). Turn k coins count l (c.loop-v.taken + count)) (sym took.after) again in
     subst (λ (n : ℕ). Turn k coins count (g.C.Coins.waiting c.take.new.self) (c.loop-v.taken + n)) (sym c.from-taken.ensures) at_rest

@@ -4,22 +4,22 @@ use Rattle.coins.proofs.Draws.{given_rejected, given_accepted, given_below}
 use Rattle.coins.proofs.Widths.{width_most}
 use Rattle.coins.proofs.draw.given_by.Goals as goal
 
-pub power-of-two-whole-requires : goal.power-of-two-whole-requires
-power-of-two-whole-requires c = let w = width_most c.args.bound c.requires.bound.1 in omega arith
+pub power_of_two-whole-requires : goal.power_of_two-whole-requires
+power_of_two-whole-requires c = let w = width_most c.args.bound c.requires.bound.1 in omega arith
 
 pub returns-then-product-whole : goal.returns-then-product-whole
 returns-then-product-whole c =
     given_rejected c.args.bound c.args.v _ _ _ c.from-bound.ensures c.from.ensures
-    (c.power-of-two-whole.ensures.value ∙ ap (λ n. 2 ^ n) c.requires.count) c.if-product-whole.true
+    (c.power_of_two-whole.ensures.value ∙ ap (λ n. 2 ^ n) c.requires.count) c.if-product-whole.true
 
-pub overflow-cast-result : goal.overflow-cast-result
-overflow-cast-result c =
+pub overflow_cast-result : goal.overflow_cast-result
+overflow_cast-result c =
     let few : c.args.v < 2 ^ width c.args.bound = omega (arith, c.requires.coins, ap (λ n. 2 ^ n) c.requires.count) in
     let h = given_below c.args.bound c.args.v _ _ _ c.from-bound.ensures c.from.ensures
-    (c.power-of-two-whole.ensures.value ∙ ap (λ n. 2 ^ n) c.requires.count) (omega arith) few in
+    (c.power_of_two-whole.ensures.value ∙ ap (λ n. 2 ^ n) c.requires.count) (omega arith) few in
     omega arith
 
 pub returns : goal.returns
 returns c =
     given_accepted c.args.bound c.args.v _ _ _ c.from-bound.ensures c.from.ensures
-    (c.power-of-two-whole.ensures.value ∙ ap (λ n. 2 ^ n) c.requires.count) c.if-product-whole.false
+    (c.power_of_two-whole.ensures.value ∙ ap (λ n. 2 ^ n) c.requires.count) c.if-product-whole.false

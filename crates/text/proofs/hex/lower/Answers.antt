@@ -9,7 +9,7 @@ loop-i-init c = (refl, refl)
 
 pub loop-i-preserved : goal.loop-i-preserved
 loop-i-preserved c =
-    (simp length-set c.loop-i.invariant.0, digits_more c.args.block c.loop-i.text c.loop-i.i _ _ (search rules) (omega (arith, c.loop-i.invariant.0)) c.lower-digit.ensures c.lower-digit-in-loop-i.ensures c.loop-i.invariant.1)
+    (simp length-set c.loop-i.invariant.0, digits_more c.args.block c.loop-i.text c.loop-i.i _ _ (search rules) (omega (arith, c.loop-i.invariant.0)) c.lower_digit.ensures c.lower_digit-in-loop-i.ensures c.loop-i.invariant.1)
 
 pub returns : goal.returns
 returns c = digits_all c.args.block c.loop-i.text c.loop-i.i (search rules) c.loop-i.invariant.0 (omega arith) c.loop-i.invariant.1

@@ -8,19 +8,19 @@ pub returns-then-text-lt1 : goal.returns-then-text-lt1
 returns-then-text-lt1 c =
     elim c.then-text-lt1.either [ inl h ↦ too_short c.args.letters c.args.text.now h | inr h ↦ too_long c.args.letters c.args.text.now h.1 ]
 
-pub returns-in-err-d : goal.returns-in-err-d
-returns-in-err-d c = c.from-residual.ensures
-    ∙ not_a_number c.args.letters c.args.text.now c.if-text-lt1.false c.if-text-gt32.false (not_a_digit c.args.letters c.args.text.now c.loop-b.n c.loop-b.b-index (omega arith) c.loop-b.invariant.0 c.in-err-d.ensures)
+pub returns-in_err-d : goal.returns-in_err-d
+returns-in_err-d c = c.from_residual.ensures
+    ∙ not_a_number c.args.letters c.args.text.now c.if-text-lt1.false c.if-text-gt32.false (not_a_digit c.args.letters c.args.text.now c.loop-b.n c.loop-b.b-index (omega arith) c.loop-b.invariant.0 c.in_err-d.ensures)
 
-pub overflow-mul-n : goal.overflow-mul-n
-overflow-mul-n c = omega (arith, fits c.loop-b.n c.loop-b.b-index (omega arith) c.loop-b.invariant.1)
+pub overflow_mul-n : goal.overflow_mul-n
+overflow_mul-n c = omega (arith, fits c.loop-b.n c.loop-b.b-index (omega arith) c.loop-b.invariant.1)
 
 -- the digit that the turn reads
 digit_read : (c : goal.After-from) → Some c.from.result ≡ digit_of c.args.letters (get_or c.args.text.now c.loop-b.b-index 0)
-digit_read c = ap (λ d. Some d) c.from.ensures ∙ c.in-ok-d.ensures
+digit_read c = ap (λ d. Some d) c.from.ensures ∙ c.in_ok-d.ensures
 
-pub overflow-add-n : goal.overflow-add-n
-overflow-add-n c =
+pub overflow_add-n : goal.overflow_add-n
+overflow_add-n c =
     omega (arith, fits c.loop-b.n c.loop-b.b-index (omega arith) c.loop-b.invariant.1, digit_below c.args.letters _ c.from.result (digit_read c))
 
 pub loop-b-preserved : goal.loop-b-preserved

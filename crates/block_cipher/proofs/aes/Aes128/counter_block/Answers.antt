@@ -4,4 +4,4 @@ use Rattle.block_cipher.proofs.aes.Aes128.counter_block.Goals as goal
 
 pub returns : goal.returns
 returns c =
-    counted _ c.args.iv _ _ c.from-be-bytes.result c.args.i (search rules) c.from-be-bytes.ensures c.swapped.ensures (c.store.ensures ∙ c.encrypt-number.ensures)
+    counted _ c.args.iv _ _ c.from_be_bytes.result c.args.i (search rules) c.from_be_bytes.ensures c.swapped.ensures (c.store.ensures ∙ c.encrypt_number.ensures)

@@ -7,7 +7,7 @@ use Rattle.block_cipher.proofs.cmac.Cmac.last_block.Goals as goal
 pub returns-then-rest-eq16 : goal.returns-then-rest-eq16
 unfolding mac_key_of
 returns-then-rest-eq16 c =
-    last_complete _ _ _ c.args.rest.now (c.load.ensures ∙ c.args.self.now.first) c.args.self.now.second _ _ c.if-rest-eq16.true (c.load-then-rest-eq16.ensures ∙ c.block-of.ensures) (little_xor c.load.result c.load-then-rest-eq16.result)
+    last_complete _ _ _ c.args.rest.now (c.load.ensures ∙ c.args.self.now.first) c.args.self.now.second _ _ c.if-rest-eq16.true (c.load-then-rest-eq16.ensures ∙ c.block_of.ensures) (little_xor c.load.result c.load-then-rest-eq16.result)
 
 pub returns : goal.returns
 unfolding mac_key_of

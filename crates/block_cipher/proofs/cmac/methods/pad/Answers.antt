@@ -4,4 +4,4 @@ use Rattle.block_cipher.proofs.cmac.methods.pad.Goals as goal
 
 pub returns : goal.returns
 returns c =
-    pads c.args.rest.now c.copy-from-slice.new.self (length c.args.rest.now - 0) c.copy-from-slice.ensures.after (omega arith) c.requires
+    pads c.args.rest.now c.copy_from_slice.new.self (length c.args.rest.now - 0) c.copy_from_slice.ensures.after (omega arith) c.requires

@@ -31,6 +31,6 @@ returns c =
     let e = take_good c.args.count coins c.if-count-lt1.false c.if-count-gt16.false enough in
     record {
       bits = byte_coins_bits s.bytes.now s.pos s.short;
-      value = ap Ok c.number-at-number.ensures ∙ sym (answers e);
+      value = ap Ok c.number_at-number.ensures ∙ sym (answers e);
       after = ap (λ n. drop (s.pos + n) (bits_of s.bytes.now)) c.from-2.ensures ∙ sym (drop-drop c.args.count s.pos (bits_of s.bytes.now)) ∙ sym (leaves coins e);
     }

@@ -9,5 +9,5 @@ of-requires c =
     record {
       least = c.if-entries-lt2.false;
       most = c.if-entries-gt4096.false;
-      permutes = subst (Permutation (length table)) (sym c.widen.ensures) ((tells table).sound (sym c.if-not-is-permutation.ensures));
+      permutes = subst (Permutation (length table)) (sym c.widen.ensures) ((tells table).sound (sym c.if-not-is_permutation.ensures));
     }

@@ -12,13 +12,13 @@ returns-in-Err g c =
     let drew = c.in-Err.ensures in
     let some : 1 ≤ c.loop-i.i - 1 = omega arith in
     record {
-      value = ap (λ o. o.answer) (shuffle_short c.loop-i.invariant c.in-Err.fault some drew.value) ∙ ap Err (sym c.passed-up.ensures);
+      value = ap (λ o. o.answer) (shuffle_short c.loop-i.invariant c.in-Err.fault some drew.value) ∙ ap Err (sym c.passed_up.ensures);
       after = drew.after ∙ short_left c.loop-i.invariant c.in-Err.fault some drew.value;
       bits = tt;
     }
 
-pub overflow-add-taken : goal.overflow-add-taken
-overflow-add-taken g c =
+pub overflow_add-taken : goal.overflow_add-taken
+overflow_add-taken g c =
     let drew = c.in-Ok.ensures in
     let some : 1 ≤ c.loop-i.i - 1 = omega arith in
     omega (arith, shuffle_fits c.loop-i.invariant c.in-Ok.drawn.0 c.in-Ok.drawn.1 some drew.value drew.bits)
@@ -35,7 +35,7 @@ loop-i-preserved g c =
     let taken = c.loop-i.taken + c.in-Ok.drawn.1 in
     let at_rest =
     subst (λ (l : List ℕ). Shuffling start whole coins i (swapped c.loop-i.table (c.loop-i.i - 1) c.in-Ok.drawn.0) l taken) (sym drew.after) more in
-    subst (λ (l : List ℕ). Shuffling start whole coins i l (g.C.Coins.waiting c.draw-below.new.coins) taken) (sym (c.swap.ensures.by_index.3 0)) at_rest
+    subst (λ (l : List ℕ). Shuffling start whole coins i l (g.C.Coins.waiting c.draw_below.new.coins) taken) (sym (c.swap.ensures.by_index.3 0)) at_rest
 
 pub returns : goal.returns
 returns g c =
