@@ -3,7 +3,7 @@
 
 pub mod checks;
 pub mod cipher;
-mod core;
+mod code;
 pub mod fast;
 pub mod key_pool;
 mod window;

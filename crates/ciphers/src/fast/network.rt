@@ -13,7 +13,7 @@ ghost use Rattle.ciphers.specs.Networked.{fast_laws};
 
 use crate::checks::check;
 use crate::cipher::FormatCipher;
-use crate::core::{decrypt_code, encrypt_code};
+use crate::code::{decrypt_code, encrypt_code};
 use crate::fast::Fast;
 use crate::fast::kept::{KEPT, find, indices, nothing_kept, replace};
 use block_cipher::cmac::Cmac;

@@ -17,8 +17,8 @@ impl Codebook {
     // Makes the codebook of a shape's alphabet and length from coins. Refused for more than 4,096 codes, when
     // nothing is taken, and for too few coins, when those of finished tries stay taken.
     pub fn from_coins<C: Coins>(coins: &mut C, shape: &Shape) -> Result<Codebook, Fault>
-        ensures value { booked result ≡ (making_book (form shape.now) (waiting coins.old)).answer }
-        ensures after { waiting coins.new ≡ after (making_book (form shape.now) (waiting coins.old)) (waiting coins.old) }
+        ensures value { booked result ≡ (making_book (form shape.now) (C.waiting coins.old)).answer }
+        ensures after { C.waiting coins.new ≡ after (making_book (form shape.now) (C.waiting coins.old)) (C.waiting coins.old) }
         ensures sound { IfOk result (λ b. Sound (book b)) }
     {
         let Some(count) = count_codes(shape) else {

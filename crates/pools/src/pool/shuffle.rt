@@ -15,8 +15,8 @@ impl Pool {
     // Makes a pool of a radix, 4 to 64, from given coins. Where the coins are too few, those of finished tries
     // stay taken, and the refusal's place is the number of the box.
     pub fn from_coins<C: Coins>(coins: &mut C, radix: u8) -> Result<Pool, Fault>
-        ensures value { held result ≡ (pooling radix (waiting coins.old)).answer }
-        ensures after { waiting coins.new ≡ after (pooling radix (waiting coins.old)) (waiting coins.old) }
+        ensures value { held result ≡ (pooling radix (C.waiting coins.old)).answer }
+        ensures after { C.waiting coins.new ≡ after (pooling radix (C.waiting coins.old)) (C.waiting coins.old) }
         ensures made { IfOk result (λ p. (p.origin ≡ Given) × (p.radix ≡ radix)) }
     {
         Pool::shuffled(Origin::Given, coins, radix)
@@ -24,8 +24,8 @@ impl Pool {
 
     // The same, for coins of any origin.
     pub fn shuffled<C: Coins>(origin: Origin, coins: &mut C, radix: u8) -> Result<Pool, Fault>
-        ensures value { held result ≡ (pooling radix (waiting coins.old)).answer }
-        ensures after { waiting coins.new ≡ after (pooling radix (waiting coins.old)) (waiting coins.old) }
+        ensures value { held result ≡ (pooling radix (C.waiting coins.old)).answer }
+        ensures after { C.waiting coins.new ≡ after (pooling radix (C.waiting coins.old)) (C.waiting coins.old) }
         ensures made { IfOk result (λ p. (p.origin ≡ origin) × (p.radix ≡ radix)) }
     {
         if radix < 4 || radix > 64 {
@@ -54,8 +54,8 @@ fn shuffle_rows<C: Coins>(
 ) -> Result<(), Fault>
     requires most { radix ≤ 64 }
     requires whole { (length forward.old ≡ 32768) × (length inverse.old ≡ 32768) }
-    ensures value { Answered (rows_of radix 256 forward.new) (makings radix 0 256 (waiting coins.old)).answer result }
-    ensures after { waiting coins.new ≡ after (makings radix 0 256 (waiting coins.old)) (waiting coins.old) }
+    ensures value { Answered (rows_of radix 256 forward.new) (makings radix 0 256 (C.waiting coins.old)).answer result }
+    ensures after { C.waiting coins.new ≡ after (makings radix 0 256 (C.waiting coins.old)) (C.waiting coins.old) }
     ensures filled { OnOk result (Filled radix 256 forward.new inverse.new) }
 {
     for n in 0..256 {

@@ -4,8 +4,8 @@ use Rattle.text.specs.Hex.{bytes_of}
 use Rattle.block_lines.proofs.Tags.{room, tagged}
 use Rattle.block_lines.proofs.answer.tag.Goals as goal
 
-pub slice-bounds-tag-end : goal.slice-bounds-tag-end
-slice-bounds-tag-end c =
+pub slice_bounds-tag-end : goal.slice_bounds-tag-end
+slice_bounds-tag-end c =
     omega (arith, room (bytes_of Either c.args.digits.now) c.args.digits.now c.decode.new.text c.in-Some.n c.in-Some.ensures.value c.decode.ensures.after)
 
 pub returns : goal.returns

@@ -5,22 +5,22 @@ use Rattle.block_lines.specs.Requests.{digits_in, ended, cmac_of}
 use Rattle.block_lines.proofs.Chains.{goes_on, stops}
 use Rattle.block_lines.proofs.request.cmac.Goals as goal
 
-pub returns-in-err-digits : goal.returns-in-err-digits
+pub returns-in_err-digits : goal.returns-in_err-digits
 unfolding cmac_of
-returns-in-err-digits c =
-    let p = err_from_is_err_and c.from-residual.result c.from-residual.ensures.1 in
-    rw (p.1, p.2) (stops digits_in _ _ _ c.word.ensures.value _ c.in-err-digits.ensures)
+returns-in_err-digits c =
+    let p = err_from_is_err_and c.from_residual.result c.from_residual.ensures.1 in
+    rw (p.1, p.2) (stops digits_in _ _ _ c.word.ensures.value _ c.in_err-digits.ensures)
 
-pub returns-in-err-end : goal.returns-in-err-end
+pub returns-in_err-end : goal.returns-in_err-end
 unfolding cmac_of
-returns-in-err-end c =
-    let p = err_from_is_err_and c.from-residual-in-err-end.result c.from-residual-in-err-end.ensures.1 in
+returns-in_err-end c =
+    let p = err_from_is_err_and c.from_residual-in_err-end.result c.from_residual-in_err-end.ensures.1 in
     rw (p.1, p.2)
-    (stops ended _ _ _ (c.word-2.ensures.value ∙ ap first_of c.word.ensures.after) _ c.in-err-end.ensures
-    ∙ goes_on digits_in _ _ _ c.word.ensures.value _ c.in-ok-digits.ensures)
+    (stops ended _ _ _ (c.word-2.ensures.value ∙ ap first_of c.word.ensures.after) _ c.in_err-end.ensures
+    ∙ goes_on digits_in _ _ _ c.word.ensures.value _ c.in_ok-digits.ensures)
 
 pub returns : goal.returns
 unfolding cmac_of
 returns c =
-    goes_on ended _ _ _ (c.word-2.ensures.value ∙ ap first_of c.word.ensures.after) _ c.in-ok-end.ensures
-    ∙ goes_on digits_in _ _ _ c.word.ensures.value _ c.in-ok-digits.ensures
+    goes_on ended _ _ _ (c.word-2.ensures.value ∙ ap first_of c.word.ensures.after) _ c.in_ok-end.ensures
+    ∙ goes_on digits_in _ _ _ c.word.ensures.value _ c.in_ok-digits.ensures

@@ -11,5 +11,5 @@ returns-in-11-to-12 c = let e = above_by_lem c.args.len c.requires.1 in (grind a
 pub returns-in-13-to-16 : goal.returns-in-13-to-16
 returns-in-13-to-16 c = let e = above_by_lem c.args.len c.requires.1 in (grind arith, omega arith)
 
-pub returns-in-default : goal.returns-in-default
-returns-in-default c = let e = above_by_lem c.args.len c.requires.1 in (grind arith, omega arith)
+pub returns-in_default : goal.returns-in_default
+returns-in_default c = let e = above_by_lem c.args.len c.requires.1 in (grind arith, omega arith)

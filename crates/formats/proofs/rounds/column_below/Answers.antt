@@ -11,5 +11,5 @@ returns-in-12-to-15 c = let e = below_by_lem c.args.len c.requires.1 in (grind a
 pub returns-in-16-to-31 : goal.returns-in-16-to-31
 returns-in-16-to-31 c = let e = below_by_lem c.args.len c.requires.1 in (grind arith, omega arith)
 
-pub returns-in-default : goal.returns-in-default
-returns-in-default c = let e = below_by_lem c.args.len c.requires.1 in (grind arith, omega arith)
+pub returns-in_default : goal.returns-in_default
+returns-in_default c = let e = below_by_lem c.args.len c.requires.1 in (grind arith, omega arith)

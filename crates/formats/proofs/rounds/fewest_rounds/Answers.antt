@@ -5,4 +5,4 @@ use Rattle.formats.proofs.rounds.fewest_rounds.Goals as goal
 pub returns : goal.returns
 unfolding least
 returns c =
-    c.unwrap-or.ensures ∙ ap (λ o. unwrap_or o 0) (c.least-rounds.ensures ∙ ap (λ n. tabled n c.args.len) c.radix.ensures)
+    c.unwrap_or.ensures ∙ ap (λ o. unwrap_or o 0) (c.least_rounds.ensures ∙ ap (λ n. tabled n c.args.len) c.radix.ensures)

@@ -8,5 +8,5 @@ pub returns : goal.returns
 returns c =
     derives (mac_key_of c.args.mac.now) (λ radix. sequence_list c.args.sequence radix c.args.len c.args.layers c.args.run.now) c.args.radix _ _ _ _ _ _ _
     c.from.ensures c.from-2.ensures
-    (c.as-slice.ensures ∙ c.write-sequence-first.ensures) (c.as-slice-2.ensures ∙ c.write-sequence-second.ensures)
+    (c.as_slice.ensures ∙ c.write_sequence-first.ensures) (c.as_slice-2.ensures ∙ c.write_sequence-second.ensures)
     c.tag.ensures c.tag-2.ensures c.join.ensures

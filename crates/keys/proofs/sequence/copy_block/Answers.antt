@@ -4,5 +4,5 @@ use Rattle.keys.proofs.sequence.copy_block.Goals as goal
 
 pub returns : goal.returns
 returns c =
-    block_copied c.args.block c.args.out.now c.copy-from-slice.new.self c.args.from c.min-count.result _ _ (omega arith) c.requires
-    c.min-count.ensures (omega arith) (omega arith) c.copy-from-slice.ensures.after
+    block_copied c.args.block c.args.out.now c.copy_from_slice.new.self c.args.from c.min-count.result _ _ (omega arith) c.requires
+    c.min-count.ensures (omega arith) (omega arith) c.copy_from_slice.ensures.after

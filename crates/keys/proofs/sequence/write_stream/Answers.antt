@@ -8,10 +8,10 @@ loop-i-init c = stream_none (key_of c.args.aes.now) c.args.iv (length c.args.out
 
 pub loop-i-preserved : goal.loop-i-preserved
 loop-i-preserved c =
-    stream_more (key_of c.args.aes.now) c.args.iv c.args.out.now c.loop-i.out c.counter-block.result c.copy-block.new.out c.loop-i.i (omega arith)
-    c.counter-block.ensures c.loop-i.invariant c.copy-block.ensures
+    stream_more (key_of c.args.aes.now) c.args.iv c.args.out.now c.loop-i.out c.counter_block.result c.copy_block.new.out c.loop-i.i (omega arith)
+    c.counter_block.ensures c.loop-i.invariant c.copy_block.ensures
 
 pub returns : goal.returns
 returns c =
-    stream_end (key_of c.args.aes.now) c.args.iv c.args.out.now c.loop-i.out c.div-ceil-i-end.result c.loop-i.i c.div-ceil-i-end.ensures (omega arith) (omega arith)
+    stream_end (key_of c.args.aes.now) c.args.iv c.args.out.now c.loop-i.out c.div_ceil-i-end.result c.loop-i.i c.div_ceil-i-end.ensures (omega arith) (omega arith)
     c.loop-i.invariant

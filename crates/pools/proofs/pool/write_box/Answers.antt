@@ -4,8 +4,8 @@ use Rattle.pools.specs.Rows.{written}
 use Rattle.pools.proofs.Rows.{entries_bytes}
 use Rattle.pools.proofs.pool.write_box.Goals as goal
 
-pub write-row-requires : goal.write-row-requires
-write-row-requires c =
+pub write_row-requires : goal.write_row-requires
+write_row-requires c =
     let p = c.images.ensures.permutes in
     record {
       row = c.requires.row;
@@ -14,8 +14,8 @@ write-row-requires c =
       whole = c.requires.whole.0;
     }
 
-pub write-row-requires-2 : goal.write-row-requires-2
-write-row-requires-2 c =
+pub write_row-requires-2 : goal.write_row-requires-2
+write_row-requires-2 c =
     let b = c.args.sbox.now in
     let long : length c.preimages.result.now ≡ b.radix =
     ap length c.preimages.ensures.value ∙ length-take-le b.radix b.inverse (omega arith) in
@@ -33,9 +33,9 @@ returns c =
     ap length c.preimages.ensures.value ∙ length-take-le b.radix b.inverse (omega arith) in
     record {
       forward =
-          c.write-row.ensures ∙ ap (λ a. written a c.args.n c.args.forward.now c.images.result.now) c.images.ensures.permutes.long ∙
+          c.write_row.ensures ∙ ap (λ a. written a c.args.n c.args.forward.now c.images.result.now) c.images.ensures.permutes.long ∙
           ap (written b.radix c.args.n c.args.forward.now) c.images.ensures.value;
       inverse =
-          c.write-row-2.ensures ∙ ap (λ a. written a c.args.n c.args.inverse.now c.preimages.result.now) long ∙
+          c.write_row-2.ensures ∙ ap (λ a. written a c.args.n c.args.inverse.now c.preimages.result.now) long ∙
           ap (written b.radix c.args.n c.args.inverse.now) c.preimages.ensures.value;
     }

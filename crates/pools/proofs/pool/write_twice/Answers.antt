@@ -3,11 +3,11 @@ use Rattle.std.proofs.ByRecursion.{All-get_or}
 use Rattle.pools.proofs.Rows.{twice_more, twice_all}
 use Rattle.pools.proofs.pool.write_twice.Goals as goal
 
-pub overflow-cast-row : goal.overflow-cast-row
-overflow-cast-row c = let h = All-get_or (λ x. x < 256) c.args.entries.now c.loop-i.i 0 c.loop-i-test.true c.requires.bytes in omega arith
+pub overflow_cast-row : goal.overflow_cast-row
+overflow_cast-row c = let h = All-get_or (λ x. x < 256) c.args.entries.now c.loop-i.i 0 c.loop-i-test.true c.requires.bytes in omega arith
 
-pub overflow-cast-row-in-loop-i : goal.overflow-cast-row-in-loop-i
-overflow-cast-row-in-loop-i c =
+pub overflow_cast-row-in-loop-i : goal.overflow_cast-row-in-loop-i
+overflow_cast-row-in-loop-i c =
     let h = All-get_or (λ x. x < 256) c.args.entries.now c.loop-i.i 0 c.loop-i-test.true c.requires.bytes in omega arith
 
 pub loop-i-preserved : goal.loop-i-preserved

@@ -4,4 +4,4 @@ use Rattle.rules.proofs.codes.is_code.Goals as goal
 
 pub returns : goal.returns
 unfolding is_code
-returns c = c.is-ok.ensures.value ∙ ap is_ok c.check.ensures
+returns c = c.is_ok.ensures.value ∙ ap is_ok c.check.ensures

@@ -9,7 +9,7 @@ loop-digit-init c = (omega arith, omega arith)
 
 pub loop-digit-preserved : goal.loop-digit-preserved
 loop-digit-preserved c =
-    let small = small_weight c.loop-digit.doubled (get_or c.args.code.now c.loop-digit.digit-index 0) (omega (arith, c.type-inv.code c.loop-digit.digit-index)) in (
+    let small = small_weight c.loop-digit.doubled (get_or c.args.code.now c.loop-digit.digit-index 0) (omega (arith, c.type_inv.code c.loop-digit.digit-index)) in (
       sum_more c.args.code.now c.loop-digit.digit-index c.loop-digit.sum c.loop-digit.doubled c.weigh-sum.result c.loop-digit-test.true c.weigh-sum.ensures c.loop-digit.invariant.0,
       omega arith,
     )

@@ -9,8 +9,8 @@ use Rattle.ciphers.proofs.Keeping.{found_indices}
 use Rattle.ciphers.specs.Networked.{near_code, symbols_code, by_form}
 use Rattle.ciphers.proofs.fast.Fast.encrypt.Goals as goal
 
-pub encrypt-code-requires : goal.encrypt-code-requires
-encrypt-code-requires c =
+pub encrypt_code-requires : goal.encrypt_code-requires
+encrypt_code-requires c =
     let net = network_of c.place-place.new.self in
     let f = form c.args.shape.now in
     let code = c.args.code.now in
@@ -33,7 +33,7 @@ returns c =
     let is = c.layers-layers.ensures.limits in
     let taken : (networked net).taken f ≡ true = subst (λ (n : Network). (networked n).taken f ≡ true) (sym c.place-place.ensures.same) c.requires.taken in
     record {
-      after = c.encrypt-code.ensures
+      after = c.encrypt_code.ensures
           ∙ (by_form net f taken is c.len.result c.in-Ok.distances c.len.ensures c.in-Ok.ensures (λ w v all. core_encrypt (boxes s.pool) s.pool.radix w v all code) run c.indices.result.now (found_indices s f run c.place-place.result c.layers-layers.result c.indices.result.now c.layers-layers.ensures.value c.place-place.ensures.stands c.indices.ensures)
           ∙ ap (λ (n : Network). (networked n).forward f run code) c.place-place.ensures.same);
       same = c.place-place.ensures.same;

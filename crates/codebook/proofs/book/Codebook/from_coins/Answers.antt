@@ -9,11 +9,11 @@ use Rattle.codebook.specs.Calls.{box_permutes}
 use Rattle.codebook.proofs.Makings.{too_many_told, count_is, making_many, making_told}
 use Rattle.codebook.proofs.book.Codebook.from_coins.Goals as goal
 
-pub returns-in-default : goal.returns-in-default
-returns-in-default g c =
+pub returns-in_default : goal.returns-in_default
+returns-in_default g c =
     let f = form c.args.shape.now in
     let coins = g.C.Coins.waiting c.args.coins.now in
-    let refused = making_many f coins (too_many_told f c.in-default.ensures) in
+    let refused = making_many f coins (too_many_told f c.in_default.ensures) in
     record { value = ap Err c.own.ensures ∙ ap (λ o. o.answer) (sym refused); after = sym (leaves coins refused); sound = tt }
 
 pub returns-in-Err : goal.returns-in-Err
@@ -25,13 +25,13 @@ returns-in-Err g c =
     let told = making_told f coins c.in-Some.count c.in-Some.ensures in
     record {
       value =
-          ap Err c.passed-up.ensures ∙ ap (λ o. in_book f o.answer) (sym (counted_err box c.in-Err.fault did.value)) ∙ ap (λ o. o.answer) told;
+          ap Err c.passed_up.ensures ∙ ap (λ o. in_book f o.answer) (sym (counted_err box c.in-Err.fault did.value)) ∙ ap (λ o. o.answer) told;
       after = did.after ∙ leaves coins told;
       sound = tt;
     }
 
-pub invariant-of-result : goal.invariant-of-result
-invariant-of-result g c =
+pub invariant_of-result : goal.invariant_of-result
+invariant_of-result g c =
     (c.in-Ok.ensures.radix ∙ count_is (form c.args.shape.now) c.in-Some.count c.in-Some.ensures c.alphabet.ensures c.len.ensures, tt)
 
 pub returns : goal.returns

@@ -5,13 +5,13 @@ use Rattle.codebook.specs.Numbers.{number}
 use Rattle.codebook.specs.Counts.{room_for}
 use Rattle.codebook.proofs.book.cipher.read_number.Goals as goal
 
-pub overflow-mul-number : goal.overflow-mul-number
-overflow-mul-number c =
+pub overflow_mul-number : goal.overflow_mul-number
+overflow_mul-number c =
     let h = room_for c.args.radix c.args.code.now c.loop-x.x-index c.loop-x-test.true c.requires.symbols c.requires.few c.loop-x.invariant c.from.ensures in
     omega arith
 
-pub overflow-add-number : goal.overflow-add-number
-overflow-add-number c =
+pub overflow_add-number : goal.overflow_add-number
+overflow_add-number c =
     let h = room_for c.args.radix c.args.code.now c.loop-x.x-index c.loop-x-test.true c.requires.symbols c.requires.few c.loop-x.invariant c.from.ensures in
     omega arith
 

@@ -6,9 +6,9 @@ pub returns-then-len-lt1 : goal.returns-then-len-lt1
 unfolding remade
 returns-then-len-lt1 c = search rules
 
-pub returns-then-rounds-fewest-rounds : goal.returns-then-rounds-fewest-rounds
+pub returns-then-rounds-fewest_rounds : goal.returns-then-rounds-fewest_rounds
 unfolding remade
-returns-then-rounds-fewest-rounds c = search rules
+returns-then-rounds-fewest_rounds c = search rules
 
 pub returns : goal.returns
 unfolding remade

@@ -5,5 +5,5 @@ use Rattle.keys.proofs.key_coins.KeyCoins.next_bits.Given as goal
 
 abbrev pub invariant-loop-i : goal.invariant-loop-i
 invariant-loop-i l =
-    (l.number ≡ number (take l.-i (remaining l.initial.self))) × (remaining l.self ≡ drop l.-i (remaining l.initial.self))
-    × (l.self.taken ≡ l.initial.self.taken + l.-i)
+    (l.number ≡ number (take l._i (remaining l.initial.self))) × (remaining l.self ≡ drop l._i (remaining l.initial.self))
+    × (l.self.taken ≡ l.initial.self.taken + l._i)

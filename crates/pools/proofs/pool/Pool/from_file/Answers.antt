@@ -8,18 +8,18 @@ use Rattle.pools.proofs.File.{form_from}
 use Rattle.pools.proofs.pool.Pool.from_file.Goals as goal
 
 pub bounds-bytes-5 : goal.bounds-bytes-5
-bounds-bytes-5 c = let f = form_from c.args.bytes.now (sym c.if-not-is-pool-file.ensures) in omega arith
+bounds-bytes-5 c = let f = form_from c.args.bytes.now (sym c.if-not-is_pool_file.ensures) in omega arith
 
-pub slice-bounds-read-pool-count : goal.slice-bounds-read-pool-count
-slice-bounds-read-pool-count c = let f = form_from c.args.bytes.now (sym c.if-not-is-pool-file.ensures) in omega arith
+pub slice_bounds-read_pool-count : goal.slice_bounds-read_pool-count
+slice_bounds-read_pool-count c = let f = form_from c.args.bytes.now (sym c.if-not-is_pool_file.ensures) in omega arith
 
-pub slice-bounds-read-pool-start : goal.slice-bounds-read-pool-start
-slice-bounds-read-pool-start c = let f = form_from c.args.bytes.now (sym c.if-not-is-pool-file.ensures) in search rules
+pub slice_bounds-read_pool-start : goal.slice_bounds-read_pool-start
+slice_bounds-read_pool-start c = let f = form_from c.args.bytes.now (sym c.if-not-is_pool_file.ensures) in search rules
 
-pub read-pool-requires : goal.read-pool-requires
-read-pool-requires c =
+pub read_pool-requires : goal.read_pool-requires
+read_pool-requires c =
     let bytes = c.args.bytes.now in
-    let f = form_from bytes (sym c.if-not-is-pool-file.ensures) in
+    let f = form_from bytes (sym c.if-not-is_pool_file.ensures) in
     record { least = f.least; most = f.most; rows = rw (take_rest bytes 6) (simp length-drop (omega arith)) }
 
 pub returns : goal.returns
@@ -27,7 +27,7 @@ returns c =
     let bytes = c.args.bytes.now in
     record {
       value =
-          c.read-pool.ensures.value ∙ ap (λ l. rows_read (cut (radix_of bytes) 256 l)) (take_rest bytes 6) ∙
-          sym (cond-true (right_form bytes) (rows_read (file_rows bytes)) (Err (own PoolFile)) (sym c.if-not-is-pool-file.ensures));
-      made = c.read-pool.ensures.made;
+          c.read_pool.ensures.value ∙ ap (λ l. rows_read (cut (radix_of bytes) 256 l)) (take_rest bytes 6) ∙
+          sym (cond-true (right_form bytes) (rows_read (file_rows bytes)) (Err (own PoolFile)) (sym c.if-not-is_pool_file.ensures));
+      made = c.read_pool.ensures.made;
     }

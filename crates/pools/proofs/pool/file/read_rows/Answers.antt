@@ -14,14 +14,14 @@ pub loop-n-init : goal.loop-n-init
 unfolding rows_of
 loop-n-init c = (refl, refl, filled_none c.args.radix c.args.forward.now c.args.inverse.now)
 
-pub slice-bounds-from-entries-end : goal.slice-bounds-from-entries-end
-slice-bounds-from-entries-end c =
+pub slice_bounds-from_entries-end : goal.slice_bounds-from_entries-end
+slice_bounds-from_entries-end c =
     let room = cut_room c.args.radix c.loop-n.n (omega arith) in
     let e = ap (λ a. c.loop-n.n * a) c.from-width.ensures in
     search rules
 
-pub returns-in-default : goal.returns-in-default
-returns-in-default c =
+pub returns-in_default : goal.returns-in_default
+returns-in_default c =
     let a = c.args.radix in
     let n = c.loop-n.n in
     let rows = cut a 256 c.args.rows.now in
@@ -30,7 +30,7 @@ returns-in-default c =
     let w = c.from-width.result in
     let row = slice_row a n c.args.rows.now here w (n * w + w - n * w) c.from-width.ensures (omega arith) in
     let long = row_long a n c.args.rows.now here c.requires.rows in
-    let bad = given_none (get_or rows n []) (omega arith) (omega arith) (c.in-default.ensures ∙ ap given row) in
+    let bad = given_none (get_or rows n []) (omega arith) (omega arith) (c.in_default.ensures ∙ ap given row) in
     let found : first_bad 0 rows ≡ Some n = sym c.loop-n.invariant.0 ∙ bad_here rows n within bad in
     record {
       value = ap (λ o. unless o rows) found ∙ ap (λ f. Err (placed f n)) (sym c.own.ensures) ∙ ap Err (sym c.at.ensures);
@@ -50,8 +50,8 @@ loop-n-preserved c =
     let long = row_long a n c.args.rows.now here c.requires.rows in
     let good = given_some (get_or rows n []) (entries b) (c.in-Some.ensures ∙ ap given row) in
     let radix : b.radix ≡ a = sym (box_permutes b).long ∙ ap length good.1 ∙ long in
-    let grew = grown b n c.loop-n.forward c.loop-n.inverse c.write-box.new.forward c.write-box.new.inverse
-    here (omega arith) (omega arith) c.write-box.ensures.forward c.write-box.ensures.inverse a radix c.requires.most c.loop-n.invariant.2 in (
+    let grew = grown b n c.loop-n.forward c.loop-n.inverse c.write_box.new.forward c.write_box.new.inverse
+    here (omega arith) (omega arith) c.write_box.ensures.forward c.write_box.ensures.inverse a radix c.requires.most c.loop-n.invariant.2 in (
       sym (bad_on rows n within good.0) ∙ c.loop-n.invariant.0,
       grew.1 ∙ ap (λ l. l ++ entries b ∷ []) c.loop-n.invariant.1 ∙ ap (λ r. take n rows ++ r ∷ []) good.1 ∙ sym (take_more rows n [] within),
       grew.0,

@@ -26,7 +26,7 @@ returns-in-Err g c =
     record {
       value =
           ap (λ o. o.answer) (pooling_short c.loop-n.invariant.0 (omega arith) c.in-Err.fault bad) ∙
-          ap (λ f. Err (placed f c.loop-n.n)) (sym c.passed-up.ensures) ∙ ap Err (sym c.at.ensures);
+          ap (λ f. Err (placed f c.loop-n.n)) (sym c.passed_up.ensures) ∙ ap Err (sym c.at.ensures);
       after = did.after ∙ leaves rest same ∙ short_left c.loop-n.invariant.0 (omega arith) c.in-Err.fault bad;
       filled = tt;
     }
@@ -37,10 +37,10 @@ loop-n-preserved g c =
     let b = c.in-Ok.shuffled.0 in
     let rest = g.C.Coins.waiting c.loop-n.coins in
     let same = ap (λ a. making a rest) c.from.ensures in
-    let grew = grown b c.loop-n.n c.loop-n.forward c.loop-n.inverse c.write-box.new.forward c.write-box.new.inverse
-    (omega arith) (omega arith) (omega arith) c.write-box.ensures.forward c.write-box.ensures.inverse
+    let grew = grown b c.loop-n.n c.loop-n.forward c.loop-n.inverse c.write_box.new.forward c.write_box.new.inverse
+    (omega arith) (omega arith) (omega arith) c.write_box.ensures.forward c.write_box.ensures.inverse
     c.args.radix (did.radix ∙ c.from.ensures) c.requires.most c.loop-n.invariant.1 in (
-      pooling_grown c.loop-n.forward c.loop-n.invariant.0 (omega arith) c.write-box.new.forward (g.C.Coins.waiting c.shuffled.new.coins) (entries b) c.in-Ok.shuffled.1
+      pooling_grown c.loop-n.forward c.loop-n.invariant.0 (omega arith) c.write_box.new.forward (g.C.Coins.waiting c.shuffled.new.coins) (entries b) c.in-Ok.shuffled.1
           (sym same ∙ counted_ok (making c.from.result rest) (entries b) c.in-Ok.shuffled.1 did.value) (did.after ∙ leaves rest same) grew.1,
       grew.0,
     )

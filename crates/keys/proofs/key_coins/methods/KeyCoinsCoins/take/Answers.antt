@@ -32,6 +32,6 @@ returns c =
     let e = take_good c.args.count coins c.if-count-lt1.false c.if-count-gt16.false enough in
     record {
       bits = coins_are_bits (key_of s.aes) s.iv s.taken;
-      value = ap Ok c.next-bits.ensures.value ∙ sym (answers e);
-      after = c.next-bits.ensures.after ∙ sym (leaves coins e);
+      value = ap Ok c.next_bits.ensures.value ∙ sym (answers e);
+      after = c.next_bits.ensures.after ∙ sym (leaves coins e);
     }

@@ -4,7 +4,7 @@ use Rattle.pools.specs.Rows.{rows_of}
 use Rattle.ciphers.specs.Layers.{core_encrypt}
 use Rattle.ciphers.proofs.Doubled.{reads}
 use Rattle.ciphers.proofs.Opened.{window_long, window_code, window_symbols, same_core, reads_as}
-use Rattle.ciphers.proofs.core.encrypt_code.Goals as goal
+use Rattle.ciphers.proofs.code.encrypt_code.Goals as goal
 
 pub encrypt-requires : goal.encrypt-requires
 encrypt-requires c =
@@ -27,5 +27,5 @@ returns c =
     let n = length c.args.indices.now in
     let len = length code in
     let part : n + len - n ≡ len = omega arith in
-    let out : c.copy-from-slice.new.self ≡ take len (drop n c.encrypt.new.window) = c.copy-from-slice.ensures.after ∙ ap (λ k. take k (drop n c.encrypt.new.window)) part in
+    let out : c.copy_from_slice.new.self ≡ take len (drop n c.encrypt.new.window) = c.copy_from_slice.ensures.after ∙ ap (λ k. take k (drop n c.encrypt.new.window)) part in
     out ∙ (c.encrypt.ensures ∙ (ap (λ l. core_encrypt (rows_of c.radix.result 256 c.forward.result.now) c.radix.result c.args.w c.args.v c.args.indices.now l) (window_code code c.opened-window.result 0 c.opened-window.ensures (omega (arith, c.requires.near.1))) ∙ same_core c.radix.result p.radix c.radix.ensures c.forward.result.now p.forward c.forward.ensures (λ a t. core_encrypt (rows_of a 256 t) a c.args.w c.args.v c.args.indices.now code)))

@@ -4,7 +4,7 @@ use Rattle.pools.specs.Rows.{rows_of}
 use Rattle.ciphers.specs.Layers.{core_decrypt}
 use Rattle.ciphers.proofs.Doubled.{reads}
 use Rattle.ciphers.proofs.Opened.{window_long, window_code, window_symbols, same_core, reads_as}
-use Rattle.ciphers.proofs.core.decrypt_code.Goals as goal
+use Rattle.ciphers.proofs.code.decrypt_code.Goals as goal
 
 pub decrypt-requires : goal.decrypt-requires
 decrypt-requires c =
@@ -27,5 +27,5 @@ returns c =
     let len = length code in
     let n = length c.args.indices.now in
     let part : len - 0 ≡ len = omega arith in
-    let out : c.copy-from-slice.new.self ≡ take len c.decrypt.new.window = c.copy-from-slice.ensures.after ∙ ap (λ k. take k c.decrypt.new.window) part in
+    let out : c.copy_from_slice.new.self ≡ take len c.decrypt.new.window = c.copy_from_slice.ensures.after ∙ ap (λ k. take k c.decrypt.new.window) part in
     out ∙ (c.decrypt.ensures ∙ (ap (λ l. core_decrypt (rows_of c.radix.result 256 c.inverse.result.now) c.radix.result c.args.w c.args.v c.args.indices.now l) (window_code code c.opened-window.result n c.opened-window.ensures (omega (arith, c.requires.near.1, c.requires.few))) ∙ same_core c.radix.result p.radix c.radix.ensures c.inverse.result.now p.inverse c.inverse.ensures (λ a t. core_decrypt (rows_of a 256 t) a c.args.w c.args.v c.args.indices.now code)))
