@@ -8,25 +8,25 @@ use Rattle.walk.proofs.count.has_few_codes.Goals as goal
 pub loop-init : goal.loop-init
 loop-init c = (sym (pow-zero c.from-radix.result), omega arith)
 
-pub overflow-mul-count : goal.overflow-mul-count
-overflow-mul-count c =
+pub overflow_mul-count : goal.overflow_mul-count
+overflow_mul-count c =
     let few = few_symbols c.args.shape.now.alphabet in
     let radix : c.from-radix.result ≤ 36 = omega arith in
     let most : c.loop.count * c.from-radix.result ≤ 2 ^ 63 * 36 = mul-le-mul c.loop.invariant.1 radix in
     omega arith
 
-pub returns-then-count-gt-MOST-CODES : goal.returns-then-count-gt-MOST-CODES
-returns-then-count-gt-MOST-CODES c =
+pub returns-then-count-gt-MOST_CODES : goal.returns-then-count-gt-MOST_CODES
+returns-then-count-gt-MOST_CODES c =
     let f = form c.args.shape.now in
     let same : c.from-radix.result ≡ radix_of f.alphabet = c.from-radix.ensures ∙ c.radix.ensures in
     let power : c.loop.count * c.from-radix.result ≡ radix_of f.alphabet ^ (c.loop.counter + 1) =
     ap (λ n. n * c.from-radix.result) c.loop.invariant.0 ∙ power_more c.from-radix.result c.loop.counter ∙ ap (λ a. a ^ (c.loop.counter + 1)) same in
-    too_many f (c.loop.counter + 1) (omega arith) (subst (λ (n : ℕ). 2 ^ 63 < n) power c.if-count-gt-MOST-CODES.true)
+    too_many f (c.loop.counter + 1) (omega arith) (subst (λ (n : ℕ). 2 ^ 63 < n) power c.if-count-gt-MOST_CODES.true)
 
 pub loop-preserved : goal.loop-preserved
 loop-preserved c = (
   ap (λ n. n * c.from-radix.result) c.loop.invariant.0 ∙ power_more c.from-radix.result c.loop.counter,
-  c.if-count-gt-MOST-CODES.false,
+  c.if-count-gt-MOST_CODES.false,
 )
 
 pub returns : goal.returns

@@ -32,7 +32,7 @@ returns-in-Err g c =
 
 pub invariant_of-result : goal.invariant_of-result
 invariant_of-result g c =
-    (c.in-Ok.ensures.radix ∙ count_is (form c.args.shape.now) c.in-Some.count c.in-Some.ensures c.alphabet.ensures c.len.ensures, tt)
+    record { whole = c.in-Ok.ensures.radix ∙ count_is (form c.args.shape.now) c.in-Some.count c.in-Some.ensures c.alphabet.ensures c.len.ensures }
 
 pub returns : goal.returns
 returns g c =

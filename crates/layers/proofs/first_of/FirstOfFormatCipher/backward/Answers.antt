@@ -6,13 +6,13 @@ use Rattle.layers.specs.Firsts.{preferring}
 use Rattle.layers.specs.FirstsLemmas.{left_refused, left_value, left_after, right_refused, right_value, right_after}
 use Rattle.layers.proofs.first_of.FirstOfFormatCipher.backward.Goals as goal
 
-pub returns-in-err-check : goal.returns-in-err-check
-returns-in-err-check g c =
+pub returns-in_err-check : goal.returns-in_err-check
+returns-in_err-check g c =
     let l = g.L.FormatCipher.meaning c.args.self.now.left in
     let r = g.R.FormatCipher.meaning c.args.self.now.right in
     let code = c.args.code.now in
-    let p = err_from_is_err_and c.from-residual.result c.from-residual.ensures.1 in
-    let is = left_refused l r l.backward r.backward (form c.args.shape.now) c.args.run.now code c.if-takes.ensures c.in-err-check.ensures in
+    let p = err_from_is_err_and c.from_residual.result c.from_residual.ensures.1 in
+    let is = left_refused l r l.backward r.backward (form c.args.shape.now) c.args.run.now code c.if-takes.ensures c.in_err-check.ensures in
     record { value = p.1 ∙ ap Err p.2 ∙ sym (ap answer is); after = sym (ap (λ o. left o code) is); same = refl {a = preferring l r} }
 
 pub returns-then-takes : goal.returns-then-takes
@@ -21,20 +21,20 @@ returns-then-takes g c =
     let r = g.R.FormatCipher.meaning c.args.self.now.right in
     let f = form c.args.shape.now in
     let takes = c.if-takes.ensures in
-    let ok = c.in-ok-check.ensures in
+    let ok = c.in_ok-check.ensures in
     record {
-      value = c.pass-up.ensures ∙ left_value l r l.backward r.backward f c.args.run.now c.args.code.now takes ok c.backward.ensures.value;
+      value = c.pass_up.ensures ∙ left_value l r l.backward r.backward f c.args.run.now c.args.code.now takes ok c.backward.ensures.value;
       after = left_after l r l.backward r.backward f c.args.run.now c.args.code.now takes ok c.backward.ensures.after;
       same = ap (λ m. preferring m r) c.backward.ensures.same;
     }
 
-pub returns-in-err-check-2 : goal.returns-in-err-check-2
-returns-in-err-check-2 g c =
+pub returns-in_err-check-2 : goal.returns-in_err-check-2
+returns-in_err-check-2 g c =
     let l = g.L.FormatCipher.meaning c.args.self.now.left in
     let r = g.R.FormatCipher.meaning c.args.self.now.right in
     let code = c.args.code.now in
-    let p = err_from_is_err_and c.from-residual-in-err-check-2.result c.from-residual-in-err-check-2.ensures.1 in
-    let is = right_refused l r l.backward r.backward (form c.args.shape.now) c.args.run.now code c.if-takes.ensures c.takes-2.ensures c.in-err-check-2.ensures in
+    let p = err_from_is_err_and c.from_residual-in_err-check-2.result c.from_residual-in_err-check-2.ensures.1 in
+    let is = right_refused l r l.backward r.backward (form c.args.shape.now) c.args.run.now code c.if-takes.ensures c.takes-2.ensures c.in_err-check-2.ensures in
     record { value = p.1 ∙ ap Err p.2 ∙ sym (ap answer is); after = sym (ap (λ o. left o code) is); same = refl {a = preferring l r} }
 
 pub returns : goal.returns
@@ -44,9 +44,9 @@ returns g c =
     let f = form c.args.shape.now in
     let out = c.if-takes.ensures in
     let takes = c.takes-2.ensures in
-    let ok = c.in-ok-check-2.ensures in
+    let ok = c.in_ok-check-2.ensures in
     record {
-      value = c.pass-up-2.ensures ∙ right_value l r l.backward r.backward f c.args.run.now c.args.code.now out takes ok c.backward-2.ensures.value;
+      value = c.pass_up-2.ensures ∙ right_value l r l.backward r.backward f c.args.run.now c.args.code.now out takes ok c.backward-2.ensures.value;
       after = right_after l r l.backward r.backward f c.args.run.now c.args.code.now out takes ok c.backward-2.ensures.after;
       same = ap (preferring l) c.backward-2.ensures.same;
     }

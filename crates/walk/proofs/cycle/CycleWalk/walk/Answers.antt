@@ -9,45 +9,45 @@ use Rattle.walk.specs.Walks.{walking}
 use Rattle.walk.proofs.Called.{call_refused, call_barred, code_kept, call_on, call_passed, call_found, taken_below, way_law}
 use Rattle.walk.proofs.cycle.CycleWalk.walk.Goals as goal
 
-pub walk-on-requires : goal.walk-on-requires
-walk-on-requires g c =
+pub walk_on-requires : goal.walk_on-requires
+walk_on-requires g c =
     let m = g.T.FormatCipher.meaning c.args.self.now.below in
     let allowed = g.R.Rule.allowed c.args.self.now.rule in
     let f = form c.args.shape.now in
     let run = c.args.run.now in
     let code = c.args.code.now in
     let pick : Meaning → Form → List ℕ → List ℕ → List ℕ = map_of c.args.way in
-    let taken = taken_below m allowed pick f run code c.takes-taken.result c.takes-taken.ensures c.in-ok-admit.ensures in
+    let taken = taken_below m allowed pick f run code c.takes-taken.result c.takes-taken.ensures c.in_ok-admit.ensures in
     let law = way_law c.args.way m (g.met.T.FormatCipher.lawful c.args.self.now.below) f run taken in
-    call_on m allowed pick f run code c.takes-taken.result c.takes-taken.ensures c.in-ok-admit.ensures c.swap-below.result c.swap-below.ensures.value c.in-ok-pass-up.ensures
-    _ law (g.T.FormatCipher.meaning c.swap-below.new.below) c.swap-below.ensures.same c.swap-below.new.code c.swap-below.ensures.after
+    call_on m allowed pick f run code c.takes-taken.result c.takes-taken.ensures c.in_ok-admit.ensures c.swap_below.result c.swap_below.ensures.value c.in_ok-pass_up.ensures
+    _ law (g.T.FormatCipher.meaning c.swap_below.new.below) c.swap_below.ensures.same c.swap_below.new.code c.swap_below.ensures.after
 
-pub returns-in-err-admit : goal.returns-in-err-admit
-returns-in-err-admit g c =
+pub returns-in_err-admit : goal.returns-in_err-admit
+returns-in_err-admit g c =
     let m = g.T.FormatCipher.meaning c.args.self.now.below in
     let allowed = g.R.Rule.allowed c.args.self.now.rule in
     let f = form c.args.shape.now in
     let run = c.args.run.now in
     let code = c.args.code.now in
-    let is = call_refused m allowed (map_of c.args.way) f run code c.takes-taken.result c.takes-taken.ensures c.in-err-admit.field-0.0 c.in-err-admit.ensures in
-    let p = err_from_is_err_and c.from-residual.result c.from-residual.ensures.1 in
+    let is = call_refused m allowed (map_of c.args.way) f run code c.takes-taken.result c.takes-taken.ensures c.in_err-admit.field-0.0 c.in_err-admit.ensures in
+    let p = err_from_is_err_and c.from_residual.result c.from_residual.ensures.1 in
     record { value = p.1 ∙ ap Err p.2 ∙ sym (ap answer is); after = sym (ap (λ o. left o code) is); same = refl }
 
-pub returns-in-err-pass-up : goal.returns-in-err-pass-up
-returns-in-err-pass-up g c =
+pub returns-in_err-pass_up : goal.returns-in_err-pass_up
+returns-in_err-pass_up g c =
     let m = g.T.FormatCipher.meaning c.args.self.now.below in
     let allowed = g.R.Rule.allowed c.args.self.now.rule in
     let f = form c.args.shape.now in
     let run = c.args.run.now in
     let code = c.args.code.now in
     let pick : Meaning → Form → List ℕ → List ℕ → List ℕ = map_of c.args.way in
-    let is = call_barred m allowed pick f run code c.takes-taken.result c.takes-taken.ensures c.in-ok-admit.ensures c.swap-below.result c.swap-below.ensures.value c.in-err-pass-up.field-0.0 c.in-err-pass-up.ensures in
-    let kept = code_kept m allowed pick f run code c.takes-taken.result c.takes-taken.ensures c.in-ok-admit.ensures c.swap-below.result c.swap-below.ensures.value c.in-err-pass-up.field-0.0 c.in-err-pass-up.ensures in
-    let p = err_from_is_err_and c.from-residual-in-err-pass-up.result c.from-residual-in-err-pass-up.ensures.1 in
+    let is = call_barred m allowed pick f run code c.takes-taken.result c.takes-taken.ensures c.in_ok-admit.ensures c.swap_below.result c.swap_below.ensures.value c.in_err-pass_up.field-0.0 c.in_err-pass_up.ensures in
+    let kept = code_kept m allowed pick f run code c.takes-taken.result c.takes-taken.ensures c.in_ok-admit.ensures c.swap_below.result c.swap_below.ensures.value c.in_err-pass_up.field-0.0 c.in_err-pass_up.ensures in
+    let p = err_from_is_err_and c.from_residual-in_err-pass_up.result c.from_residual-in_err-pass_up.ensures.1 in
     record {
       value = p.1 ∙ ap Err p.2 ∙ sym (ap answer is);
-      after = c.swap-below.ensures.after ∙ kept ∙ sym (ap (λ o. left o code) is);
-      same = ap (λ n. walking n allowed) c.swap-below.ensures.same;
+      after = c.swap_below.ensures.after ∙ kept ∙ sym (ap (λ o. left o code) is);
+      same = ap (λ n. walking n allowed) c.swap_below.ensures.same;
     }
 
 pub returns : goal.returns
@@ -58,12 +58,12 @@ returns g c =
     let run = c.args.run.now in
     let code = c.args.code.now in
     let pick : Meaning → Form → List ℕ → List ℕ → List ℕ = map_of c.args.way in
-    let now = g.T.FormatCipher.meaning c.swap-below.new.below in
-    let is = call_passed m allowed pick f run code c.takes-taken.result c.takes-taken.ensures c.in-ok-admit.ensures c.swap-below.result c.swap-below.ensures.value c.in-ok-pass-up.ensures in
-    let found = call_found m allowed pick f run code c.takes-taken.result c.takes-taken.ensures c.in-ok-admit.ensures c.swap-below.result c.swap-below.ensures.value c.in-ok-pass-up.ensures
-    now c.swap-below.ensures.same c.swap-below.new.code c.walk-on.new.code c.swap-below.ensures.after c.walk-on.ensures.after in
+    let now = g.T.FormatCipher.meaning c.swap_below.new.below in
+    let is = call_passed m allowed pick f run code c.takes-taken.result c.takes-taken.ensures c.in_ok-admit.ensures c.swap_below.result c.swap_below.ensures.value c.in_ok-pass_up.ensures in
+    let found = call_found m allowed pick f run code c.takes-taken.result c.takes-taken.ensures c.in_ok-admit.ensures c.swap_below.result c.swap_below.ensures.value c.in_ok-pass_up.ensures
+    now c.swap_below.ensures.same c.swap_below.new.code c.walk_on.new.code c.swap_below.ensures.after c.walk_on.ensures.after in
     record {
       value = sym (ap answer is);
       after = found ∙ sym (ap (λ o. left o code) is);
-      same = ap (λ n. walking n allowed) (c.walk-on.ensures.same ∙ c.swap-below.ensures.same);
+      same = ap (λ n. walking n allowed) (c.walk_on.ensures.same ∙ c.swap_below.ensures.same);
     }

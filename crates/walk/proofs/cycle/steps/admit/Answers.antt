@@ -4,17 +4,17 @@ use Rattle.formats.specs.Shapes.{form}
 use Rattle.walk.proofs.Called.{admit_refused, admit_allowed, admit_denied}
 use Rattle.walk.proofs.cycle.steps.admit.Goals as goal
 
-pub returns-in-err-check : goal.returns-in-err-check
-returns-in-err-check g c =
-    let p = err_from_is_err_and c.from-residual.result c.from-residual.ensures.1 in
+pub returns-in_err-check : goal.returns-in_err-check
+returns-in_err-check g c =
+    let p = err_from_is_err_and c.from_residual.result c.from_residual.ensures.1 in
     p.1 ∙ ap Err p.2 ∙
-    admit_refused c.args.taken _ (form c.args.shape.now) c.args.run.now c.args.code.now c.in-err-check.field-0.0 c.in-err-check.ensures
+    admit_refused c.args.taken _ (form c.args.shape.now) c.args.run.now c.args.code.now c.in_err-check.field-0.0 c.in_err-check.ensures
 
 pub returns-then-not-allows : goal.returns-then-not-allows
 returns-then-not-allows g c =
     ap Err c.own.ensures ∙
-    admit_denied c.args.taken _ (form c.args.shape.now) c.args.run.now c.args.code.now c.in-ok-check.ensures (sym c.if-not-allows.ensures)
+    admit_denied c.args.taken _ (form c.args.shape.now) c.args.run.now c.args.code.now c.in_ok-check.ensures (sym c.if-not-allows.ensures)
 
 pub returns : goal.returns
 returns g c =
-    admit_allowed c.args.taken _ (form c.args.shape.now) c.args.run.now c.args.code.now c.in-ok-check.ensures (sym c.if-not-allows.ensures)
+    admit_allowed c.args.taken _ (form c.args.shape.now) c.args.run.now c.args.code.now c.in_ok-check.ensures (sym c.if-not-allows.ensures)

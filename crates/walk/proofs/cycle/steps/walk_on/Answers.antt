@@ -17,7 +17,7 @@ loop-way-smaller g c =
     let pick : Meaning → Form → List ℕ → List ℕ → List ℕ = map_of c.args.way in
     let inv = c.loop-way.invariant in
     let code = c.loop-way.code in
-    let next = swapped_on m allowed pick f run code inv.on (g.T.FormatCipher.meaning c.loop-way.below) inv.same c.swap-below.new.code c.swap-below.ensures.after in
+    let next = swapped_on m allowed pick f run code inv.on (g.T.FormatCipher.meaning c.loop-way.below) inv.same c.swap_below.new.code c.swap_below.ensures.after in
     let left : List ℕ → ℕ = swaps_left (pick m f run) (allowed f) (denied_count m allowed f) in
     subst (λ (d : List ℕ). left d < left code) (sym next) (less_left m allowed pick f run code inv.on (sym c.loop-way-test.ensures))
 
@@ -32,9 +32,9 @@ loop-way-preserved g c =
     let code = c.loop-way.code in
     let nope = sym c.loop-way-test.ensures in
     let law = way_law c.args.way m (g.met.T.FormatCipher.lawful c.args.below.now) f run inv.on.taken in
-    let next = swapped_on m allowed pick f run code inv.on (g.T.FormatCipher.meaning c.loop-way.below) inv.same c.swap-below.new.code c.swap-below.ensures.after in
+    let next = swapped_on m allowed pick f run code inv.on (g.T.FormatCipher.meaning c.loop-way.below) inv.same c.swap_below.new.code c.swap_below.ensures.after in
     record {
-      same = c.swap-below.ensures.same ∙ inv.same;
+      same = c.swap_below.ensures.same ∙ inv.same;
       on = subst (λ (d : List ℕ). OnTheWay m allowed (pick m) f run d) (sym next) (on_more m allowed pick f run code inv.on nope _ law);
       goal = subst (λ (d : List ℕ). sought m allowed (pick m) f run d ≡ sought m allowed (pick m) f run c.args.code.now) (sym next) (goal_more m allowed pick f run code inv.on nope ∙ inv.goal);
     }

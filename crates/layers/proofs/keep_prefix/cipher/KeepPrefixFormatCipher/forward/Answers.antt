@@ -18,35 +18,35 @@ returns-in-None g c =
       same = refl {a = m};
     }
 
-pub returns-in-err-check : goal.returns-in-err-check
-returns-in-err-check g c =
+pub returns-in_err-check-in-Some : goal.returns-in_err-check-in-Some
+returns-in_err-check-in-Some g c =
     let k = c.args.self.now.kept in
     let m = g.T.FormatCipher.meaning c.args.self.now.below in
     let code = c.args.code.now in
-    let p = err_from_is_err_and c.from-residual.result c.from-residual.ensures.1 in
-    let is = kept_refused k m m.forward (form c.args.shape.now) c.args.run.now code c.in-Some.ensures.takes c.in-err-check.ensures in
+    let p = err_from_is_err_and c.from_residual.result c.from_residual.ensures.1 in
+    let is = kept_refused k m m.forward (form c.args.shape.now) c.args.run.now code c.in-Some.ensures.takes c.in_err-check-in-Some.ensures in
     record { value = p.1 ∙ ap Err p.2 ∙ sym (ap answer is); after = sym (ap (λ o. left o code) is); same = refl {a = keeping k m} }
 
-pub slice-bounds-part-count : goal.slice-bounds-part-count
-slice-bounds-part-count g c =
+pub slice_bounds-part-count : goal.slice_bounds-part-count
+slice_bounds-part-count g c =
     let m = g.T.FormatCipher.meaning c.args.self.now.below in
-    fits c.args.self.now.kept m (form c.args.shape.now) c.args.run.now c.args.code.now c.in-Some.ensures.takes c.in-ok-check.ensures
+    fits c.args.self.now.kept m (form c.args.shape.now) c.args.run.now c.args.code.now c.in-Some.ensures.takes c.in_ok-check-in-Some.ensures
 
-pub slice-bounds-part-start : goal.slice-bounds-part-start
-slice-bounds-part-start g c =
+pub slice_bounds-part-start : goal.slice_bounds-part-start
+slice_bounds-part-start g c =
     let m = g.T.FormatCipher.meaning c.args.self.now.below in
-    fits c.args.self.now.kept m (form c.args.shape.now) c.args.run.now c.args.code.now c.in-Some.ensures.takes c.in-ok-check.ensures
+    fits c.args.self.now.kept m (form c.args.shape.now) c.args.run.now c.args.code.now c.in-Some.ensures.takes c.in_ok-check-in-Some.ensures
 
-pub returns-in-ok-check : goal.returns-in-ok-check
-returns-in-ok-check g c =
+pub returns-in_ok-check-in-Some : goal.returns-in_ok-check-in-Some
+returns-in_ok-check-in-Some g c =
     let p = c.args.self.now.kept in
     let m = g.T.FormatCipher.meaning c.args.self.now.below in
     let f = form c.args.shape.now in
     let takes = c.in-Some.ensures.takes in
     let rest = c.in-Some.ensures.rest in
-    let ok = c.in-ok-check.ensures in
+    let ok = c.in_ok-check-in-Some.ensures in
     record {
-      value = c.pass-up.ensures ∙ kept_value p m m.forward f c.args.run.now c.args.code.now takes ok (form c.in-Some.rest) rest c.forward.ensures.value;
+      value = c.pass_up.ensures ∙ kept_value p m m.forward f c.args.run.now c.args.code.now takes ok (form c.in-Some.rest) rest c.forward.ensures.value;
       after = kept_after p m m.forward f c.args.run.now c.args.code.now takes ok (form c.in-Some.rest) rest c.forward.ensures.after;
       same = ap (keeping p) c.forward.ensures.same;
     }
