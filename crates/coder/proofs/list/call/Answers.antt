@@ -25,9 +25,9 @@ pub returns-in-Mask : goal.returns-in-Mask
 returns-in-Mask g c = record {
   same = c.mask.ensures.same;
   follows =
-      let was = c.deref-mut.result.now in
+      let was = c.deref_mut.result.now in
       carried (call_of c.args.command.now) (masks c.in-Mask.lane was) c.mask.result _ c.mask.new.text
-      (ap call_of c.in-Mask.is ∙ ap (masks c.in-Mask.lane) (sym c.deref-mut.ensures.value)) (in_vec _ was c.mask.new.text _ c.mask.auto.text c.deref-mut.ensures.len)
+      (ap call_of c.in-Mask.is ∙ ap (masks c.in-Mask.lane) (sym c.deref_mut.ensures.value)) (in_vec _ was c.mask.new.text _ c.mask.auto.text c.deref_mut.ensures.len)
       c.mask.ensures.follows;
   kept = sym (ap (λ x. bare (call_of x)) c.in-Mask.is);
 }
@@ -36,9 +36,9 @@ pub returns-in-Unmask : goal.returns-in-Unmask
 returns-in-Unmask g c = record {
   same = c.unmask.ensures.same;
   follows =
-      let was = c.deref-mut-in-Unmask.result.now in
+      let was = c.deref_mut-in-Unmask.result.now in
       carried (call_of c.args.command.now) (unmasks c.in-Unmask.lane was) c.unmask.result _ c.unmask.new.text
-      (ap call_of c.in-Unmask.is ∙ ap (unmasks c.in-Unmask.lane) (sym c.deref-mut-in-Unmask.ensures.value))
-      (in_vec _ was c.unmask.new.text _ c.unmask.auto.text c.deref-mut-in-Unmask.ensures.len) c.unmask.ensures.follows;
+      (ap call_of c.in-Unmask.is ∙ ap (unmasks c.in-Unmask.lane) (sym c.deref_mut-in-Unmask.ensures.value))
+      (in_vec _ was c.unmask.new.text _ c.unmask.auto.text c.deref_mut-in-Unmask.ensures.len) c.unmask.ensures.follows;
   kept = sym (ap (λ x. bare (call_of x)) c.in-Unmask.is);
 }

@@ -6,12 +6,12 @@ use Rattle.coder.proofs.list.make_two_lists.Goals as goal
 
 pub returns : goal.returns
 returns g c =
-    let one = c.make-calls-first.ensures in
-    let two = c.make-calls-second.ensures in
+    let one = c.make_calls-first.ensures in
+    let two = c.make_calls-second.ensures in
     record {
       law =
           two_lists_of (g.S.FormatCipher.meaning c.args.cipher) (g.T.FormatCipher.meaning c.args.other) (map asks c.args.list.now) (map asks c.args.others.now)
-          (map says c.make-calls-first.new.list) (map says c.make-calls-second.new.list) (g.met.S.FormatCipher.lawful c.args.cipher)
+          (map says c.make_calls-first.new.list) (map says c.make_calls-second.new.list) (g.met.S.FormatCipher.lawful c.args.cipher)
           (g.met.T.FormatCipher.lawful c.args.other) (entries_exist c.args.list.now) (entries_exist c.args.others.now) one.law.each two.law.each;
       answered = (one.answered, two.answered);
       kept = (one.kept, two.kept);

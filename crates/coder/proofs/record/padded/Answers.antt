@@ -4,5 +4,5 @@ use Rattle.coder.proofs.record.padded.Goals as goal
 
 pub returns : goal.returns
 returns c long =
-    let q = c.copy-from-slice.ensures.after in
-    take_at c.copy-from-slice.new.self _ (length c.args.run.now) (ap length q) ∙ q
+    let q = c.copy_from_slice.ensures.after in
+    take_at c.copy_from_slice.new.self _ (length c.args.run.now) (ap length q) ∙ q

@@ -6,35 +6,35 @@ use Rattle.commands.proofs.Readings.{goes_on, stops}
 use Rattle.commands.proofs.Forms.{finally, last_word, more_words, before_code, unmask_form}
 use Rattle.commands.proofs.command.unmask.Goals as goal
 
-pub returns-in-err-lane : goal.returns-in-err-lane
-returns-in-err-lane c =
+pub returns-in_err-lane : goal.returns-in_err-lane
+returns-in_err-lane c =
     let ws = words_left c.args.words.now in
-    rw c.from-residual.ensures (stops lane_in (before_code unmask) ws c.in-err-lane.ensures.value ∙ unmask_form ws)
+    rw c.from_residual.ensures (stops lane_in (before_code unmask) ws c.in_err-lane.ensures.value ∙ unmask_form ws)
 
-pub returns-in-err-code : goal.returns-in-err-code
-returns-in-err-code c =
+pub returns-in_err-code : goal.returns-in_err-code
+returns-in_err-code c =
     let ws = words_left c.args.words.now in
-    let k = c.in-ok-lane.lane in
-    rw c.from-residual-in-err-code.ensures
-    (stops filled_in (λ code. finally (unmask k code)) (words_left c.next-lane.new.words) c.in-err-code.ensures.value
-    ∙ goes_on lane_in (before_code unmask) ws (words_left c.next-lane.new.words) c.next-lane.ensures.after k c.in-ok-lane.ensures.value
+    let k = c.in_ok-lane.lane in
+    rw c.from_residual-in_err-code.ensures
+    (stops filled_in (λ code. finally (unmask k code)) (words_left c.next_lane.new.words) c.in_err-code.ensures.value
+    ∙ goes_on lane_in (before_code unmask) ws (words_left c.next_lane.new.words) c.next_lane.ensures.after k c.in_ok-lane.ensures.value
     ∙ unmask_form ws)
 
-pub returns-in-err-end : goal.returns-in-err-end
-returns-in-err-end c =
+pub returns-in_err-end : goal.returns-in_err-end
+returns-in_err-end c =
     let ws = words_left c.args.words.now in
-    let k = c.in-ok-lane.lane in
-    rw c.from-residual-in-err-end.ensures
-    (more_words (unmask k c.in-ok-code.code.now) (words_left c.next-word.new.words) c.in-err-end.ensures
-    ∙ goes_on filled_in (λ code. finally (unmask k code)) (words_left c.next-lane.new.words) (words_left c.next-word.new.words) c.next-word.ensures.after _ c.in-ok-code.ensures.value
-    ∙ goes_on lane_in (before_code unmask) ws (words_left c.next-lane.new.words) c.next-lane.ensures.after k c.in-ok-lane.ensures.value
+    let k = c.in_ok-lane.lane in
+    rw c.from_residual-in_err-end.ensures
+    (more_words (unmask k c.in_ok-code.code.now) (words_left c.next_word.new.words) c.in_err-end.ensures
+    ∙ goes_on filled_in (λ code. finally (unmask k code)) (words_left c.next_lane.new.words) (words_left c.next_word.new.words) c.next_word.ensures.after _ c.in_ok-code.ensures.value
+    ∙ goes_on lane_in (before_code unmask) ws (words_left c.next_lane.new.words) c.next_lane.ensures.after k c.in_ok-lane.ensures.value
     ∙ unmask_form ws)
 
 pub returns : goal.returns
 returns c =
     let ws = words_left c.args.words.now in
-    let k = c.in-ok-lane.lane in
-    last_word (unmask k c.in-ok-code.code.now) (words_left c.next-word.new.words) _ c.in-ok-end.ensures
-    ∙ goes_on filled_in (λ code. finally (unmask k code)) (words_left c.next-lane.new.words) (words_left c.next-word.new.words) c.next-word.ensures.after _ c.in-ok-code.ensures.value
-    ∙ goes_on lane_in (before_code unmask) ws (words_left c.next-lane.new.words) c.next-lane.ensures.after k c.in-ok-lane.ensures.value
+    let k = c.in_ok-lane.lane in
+    last_word (unmask k c.in_ok-code.code.now) (words_left c.next_word.new.words) _ c.in_ok-end.ensures
+    ∙ goes_on filled_in (λ code. finally (unmask k code)) (words_left c.next_lane.new.words) (words_left c.next_word.new.words) c.next_word.ensures.after _ c.in_ok-code.ensures.value
+    ∙ goes_on lane_in (before_code unmask) ws (words_left c.next_lane.new.words) c.next_lane.ensures.after k c.in_ok-lane.ensures.value
     ∙ unmask_form ws

@@ -6,14 +6,14 @@ use Rattle.piles.specs.Piles.{kept_over_first_pile}
 use Rattle.piles.proofs.Piled.{unkept_value, unkept_after, kept_value, kept_after, same_first}
 use Rattle.piles.proofs.mask.kept_over_first.Goals as goal
 
-pub returns-in-err-keep : goal.returns-in-err-keep
-returns-in-err-keep c =
+pub returns-in_err-keep : goal.returns-in_err-keep
+returns-in_err-keep c =
     let pile = kept_over_first_pile c.args.kept (book c.args.walked) (book c.args.other) in
     let f = form c.args.shape.now in
     let run = c.args.run.now in
     let code = c.args.code.now in
-    let why = c.in-err-keep.ensures in
-    let p = err_from_is_err_and c.from-residual.result c.from-residual.ensures.1 in
+    let why = c.in_err-keep.ensures in
+    let p = err_from_is_err_and c.from_residual.result c.from_residual.ensures.1 in
     record {
       value = p.1 ∙ ap Err (p.2 ∙ why.0) ∙ unkept_value c.args.kept pile (λ m. m.forward) f run code why.1;
       after = unkept_after c.args.kept pile (λ m. m.forward) f run code why.1;
@@ -25,8 +25,8 @@ returns c =
     let f = form c.args.shape.now in
     let run = c.args.run.now in
     let code = c.args.code.now in
-    let keep = c.in-ok-keep.keep in
-    let made = c.in-ok-keep.ensures in
+    let keep = c.in_ok-keep.keep in
+    let made = c.in_ok-keep.ensures in
     let walked = ap (λ t. t.left.below) made.1 ∙ ap (λ w. w.below) c.new-first.ensures.left ∙ c.new-walk.ensures.below in
     let other = ap (λ t. t.right) made.1 ∙ c.new-first.ensures.right in
     let here = kept_over_first_pile keep.kept (book keep.below.left.below) (book keep.below.right) in

@@ -9,7 +9,7 @@ returns g c =
     let f = form c.args.shape.now in
     let run = c.args.run.now in
     let code = c.args.code.now in
-    let mask = c.in-ok-forward.ensures in
+    let mask = c.in_ok-forward.ensures in
     let now = g.T.FormatCipher.meaning c.forward.new.self in
     let next = c.forward.new.code in
     record {

@@ -6,14 +6,14 @@ use Rattle.piles.specs.Piles.{nonzero_over_kept_pile}
 use Rattle.piles.proofs.Piled.{unkept_value, unkept_after, kept_value, kept_after, same_kept}
 use Rattle.piles.proofs.unmask.nonzero_over_kept.Goals as goal
 
-pub returns-in-err-keep : goal.returns-in-err-keep
-returns-in-err-keep c =
+pub returns-in_err-keep : goal.returns-in_err-keep
+returns-in_err-keep c =
     let pile = nonzero_over_kept_pile c.args.kept (network_of c.args.network) in
     let f = form c.args.shape.now in
     let run = c.args.run.now in
     let code = c.args.code.now in
-    let why = c.in-err-keep.ensures in
-    let p = err_from_is_err_and c.from-residual.result c.from-residual.ensures.1 in
+    let why = c.in_err-keep.ensures in
+    let p = err_from_is_err_and c.from_residual.result c.from_residual.ensures.1 in
     record {
       value = p.1 ∙ ap Err (p.2 ∙ why.0) ∙ unkept_value c.args.kept pile (λ m. m.backward) f run code why.1;
       after = unkept_after c.args.kept pile (λ m. m.backward) f run code why.1;
@@ -26,7 +26,7 @@ returns c =
     let run = c.args.run.now in
     let code = c.args.code.now in
     let keep = c.new-walk.result.below in
-    let made = c.in-ok-keep.ensures in
+    let made = c.in_ok-keep.ensures in
     let below = c.new-walk.ensures.below in
     let here = nonzero_over_kept_pile keep.kept (network_of keep.below) in
     let same = same_kept keep.kept c.args.kept keep.below c.args.network (ap (λ k. k.kept) below ∙ made.0) (ap (λ k. k.below) below ∙ made.1) in

@@ -4,12 +4,12 @@ use Rattle.coder.specs.Records.{views}
 use Rattle.coder.proofs.Followed.{Steps, end_follows}
 use Rattle.coder.proofs.coder.Coder.end.Goals as goal
 
-pub returns-in-err-running : goal.returns-in-err-running
-returns-in-err-running g c =
+pub returns-in_err-running : goal.returns-in_err-running
+returns-in_err-running g c =
     let m = g.T.FormatCipher.meaning c.args.self.now.cipher in
     let lanes = views c.args.self.now.lanes.records in
-    let p : Steps m lanes lanes (ends c.args.lane) c.from-residual.result = search rules in
-    record { value = p.0; lanes = p.1; same = refl; follows = end_follows m lanes lanes c.args.lane c.from-residual.result p }
+    let p : Steps m lanes lanes (ends c.args.lane) c.from_residual.result = search rules in
+    record { value = p.0; lanes = p.1; same = refl; follows = end_follows m lanes lanes c.args.lane c.from_residual.result p }
 
 pub returns : goal.returns
 returns g c =

@@ -8,23 +8,23 @@ use Rattle.coder.proofs.coder.Coder.start.Goals as goal
 
 pub put-requires : goal.put-requires
 put-requires g c = record {
-  lane = sym c.if-not-is-lane.ensures;
-  fits = ((tells c.args.run.now).only (sym c.if-not-is-legal.ensures)).short;
+  lane = sym c.if-not-is_lane.ensures;
+  fits = ((tells c.args.run.now).only (sym c.if-not-is_legal.ensures)).short;
 }
 
-pub returns-then-not-is-lane : goal.returns-then-not-is-lane
-returns-then-not-is-lane g c =
+pub returns-then-not-is_lane : goal.returns-then-not-is_lane
+returns-then-not-is_lane g c =
     let m = g.T.FormatCipher.meaning c.args.self.now.cipher in
     let lanes = views c.args.self.now.lanes.records in
     let r = Err c.own.result in
     let p : Steps m lanes lanes (starts c.args.lane c.args.run.now (form c.args.shape.now)) r = search rules in
     record { value = p.0; lanes = p.1; same = refl; follows = start_follows m lanes lanes c.args.lane c.args.run.now c.args.shape.now r p }
 
-pub returns-then-not-is-legal : goal.returns-then-not-is-legal
-returns-then-not-is-legal g c =
+pub returns-then-not-is_legal : goal.returns-then-not-is_legal
+returns-then-not-is_legal g c =
     let m = g.T.FormatCipher.meaning c.args.self.now.cipher in
     let lanes = views c.args.self.now.lanes.records in
-    let r = Err c.own-then-not-is-legal.result in
+    let r = Err c.own-then-not-is_legal.result in
     let p : Steps m lanes lanes (starts c.args.lane c.args.run.now (form c.args.shape.now)) r = search rules in
     record { value = p.0; lanes = p.1; same = refl; follows = start_follows m lanes lanes c.args.lane c.args.run.now c.args.shape.now r p }
 

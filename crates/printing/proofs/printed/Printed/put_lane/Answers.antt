@@ -6,6 +6,6 @@ use Rattle.printing.proofs.printed.Printed.put_lane.Goals as goal
 
 pub returns-in-Some : goal.returns-in-Some
 returns-in-Some c = record {
-  grows = as_written c.args.self.now c.put-decimal.new.self (decimal c.in-Some.k) (lane_text c.args.lane) (ap lane_text (sym c.in-Some.is)) c.put-decimal.ensures;
+  grows = as_written c.args.self.now c.put_decimal.new.self (decimal c.in-Some.k) (lane_text c.args.lane) (ap lane_text (sym c.in-Some.is)) c.put_decimal.ensures;
   few = omega (arith, few_digits c.in-Some.k (omega arith), ap (λ l. length (lane_text l)) c.in-Some.is);
 }
