@@ -4,7 +4,6 @@
 pub mod aes;
 pub mod cmac;
 pub mod columns;
-pub mod ffi;
 mod numbers;
 mod rounds;
 mod tables;

@@ -26,7 +26,7 @@ returns-in-Ok c =
     let kept : walk.below.kept ≡ c.args.kept = cc in
     let left : walk.below.below.left.below ≡ c.args.codebook = cc in
     let right : walk.below.below.right ≡ c.args.network = cc in
-    let P : Meaning → Type 0 = λ m. OneList m (map asks c.args.list.now) (map says c.make-calls.new.list) in
-    let made = c.make-calls.ensures in
+    let P : Meaning → Type 0 = λ m. OneList m (map asks c.args.list.now) (map says c.make_calls.new.list) in
+    let made = c.make_calls.ensures in
     let same : walking (keeping walk.below.kept (preferring (walking (meaning_of (book walk.below.below.left.below)) passes_luhn) (networked (network_of walk.below.below.right)))) leads_nonzero ≡ piled c.args.kept (book c.args.codebook) (network_of c.args.network) = cc in
     (q.2, record { kept = record { answered = made.answered; same = made.kept }; law = subst P same made.law })

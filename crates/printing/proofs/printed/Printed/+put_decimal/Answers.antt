@@ -7,4 +7,4 @@ returns-then-n-lt10 t c = one_digit c.args.self.now c.push.new.self c.args.n c.i
 
 pub returns : goal.returns
 returns t c =
-    last_digit c.args.self.now c.put-decimal.new.self c.push-2.new.self c.args.n c.if-n-lt10.false (omega arith) c.put-decimal.ensures c.push-2.ensures
+    last_digit c.args.self.now c.put_decimal.new.self c.push-2.new.self c.args.n c.if-n-lt10.false (omega arith) c.put_decimal.ensures c.push-2.ensures

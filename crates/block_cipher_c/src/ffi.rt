@@ -6,8 +6,8 @@ ghost use Rattle.block_cipher.specs.Counter.{counter_block};
 ghost use Rattle.block_cipher.specs.Keyed.{key_of};
 ghost use Rattle.block_cipher.specs.MacKey.{mac_key_of};
 
-use crate::aes::Aes128;
-use crate::cmac::Cmac;
+use block_cipher::aes::Aes128;
+use block_cipher::cmac::Cmac;
 
 #[derive(Clone, Copy)]
 #[repr(C)]
