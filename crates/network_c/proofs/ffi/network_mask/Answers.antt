@@ -12,6 +12,6 @@ returns-in-Ok c =
     let code = c.args.code.now in
     let is = by_plan (network_of c.in-Ok.ready.fast) (form c.in-Ok.ready.shape) runs code ∙ ap (λ p. masked p runs code) c.in-Ok.ensures in
     record {
-      value = c.number.ensures ∙ ap number_in (c.swap-under.ensures.value ∙ ap (λ e. e.answer) is);
-      after = c.swap-under.ensures.after ∙ ap (λ e. e.code) is;
+      value = c.number.ensures ∙ ap number_in (c.swap_under.ensures.value ∙ ap (λ e. e.answer) is);
+      after = c.swap_under.ensures.after ∙ ap (λ e. e.code) is;
     }

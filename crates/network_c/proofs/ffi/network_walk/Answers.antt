@@ -14,9 +14,9 @@ returns-in-Ok c =
     let runs = c.args.runs.now in
     let code = c.args.code.now in
     let is = ap (λ below. under (way c.args.back (nonzero (network_of below)) (form ready.shape)) runs code) c.new-walk.ensures.below in
-    subst (λ (p : Result Plan Fault). Walked c.args.back p runs code c.number.result c.swap-under.new.code) c.in-Ok.ensures (record {
+    subst (λ (p : Result Plan Fault). Walked c.args.back p runs code c.number.result c.swap_under.new.code) c.in-Ok.ensures (record {
       inverses = inverses ready.fast.pool;
       undo = pool_permutes ready.fast.pool;
-      value = c.number.ensures ∙ ap number_in (c.swap-under.ensures.value ∙ ap (λ e. e.answer) is);
-      after = c.swap-under.ensures.after ∙ ap (λ e. e.code) is;
+      value = c.number.ensures ∙ ap number_in (c.swap_under.ensures.value ∙ ap (λ e. e.answer) is);
+      after = c.swap_under.ensures.after ∙ ap (λ e. e.code) is;
     })
