@@ -92,7 +92,7 @@ fn read(line: &[u8]) -> Option<Request<'_>> {
     let mut code = [0u8; 32];
     code[0..text.len()].copy_from_slice(text);
     let len = text.len();
-    let from_file = origin == b"file";
+    let from_file = origin == b"file".as_slice();
     Some(Request {
         from_file,
         key,

@@ -8,32 +8,32 @@ use Rattle.lines.proofs.Blocks.{ends, one_more}
 use Rattle.lines.proofs.Feeds.{within, none_left}
 use Rattle.lines.proofs.block.answer_block.Goals as goal
 
-pub returns-in-default : goal.returns-in-default
-returns-in-default g c =
+pub returns-in_default : goal.returns-in_default
+returns-in_default g c =
     let m = g.T.FormatCipher.meaning c.args.coder.now.cipher in
     let block = c.args.block.now in
     let used = c.loop-i.used in
     let rest = take (length block - used) (drop used block) in
-    let left : Feedless (drop used block) = subst Feedless (take_rest block used) (none_left rest c.in-default.ensures) in
+    let left : Feedless (drop used block) = subst Feedless (take_rest block used) (none_left rest c.in_default.ensures) in
     record {
       answered = ends m (views c.args.coder.now.lanes.records) (views c.loop-i.coder.lanes.records) block used c.loop-i.i c.args.slots.now c.loop-i.slots c.loop-i.invariant.1 (λ h. left);
       same = c.loop-i.invariant.0;
     }
 
-pub slice-bounds-answer-line-end : goal.slice-bounds-answer-line-end
-slice-bounds-answer-line-end g c =
+pub slice_bounds-answer_line-end : goal.slice_bounds-answer_line-end
+slice_bounds-answer_line-end g c =
     let block = c.args.block.now in
     let rest = take (length block - c.loop-i.used) (drop c.loop-i.used block) in
     omega (arith, within rest c.in-Some.end c.in-Some.ensures)
 
-pub overflow-add-used : goal.overflow-add-used
-overflow-add-used g c =
+pub overflow_add-used : goal.overflow_add-used
+overflow_add-used g c =
     let block = c.args.block.now in
     let rest = take (length block - c.loop-i.used) (drop c.loop-i.used block) in
     omega (arith, within rest c.in-Some.end c.in-Some.ensures, length-take (length block - c.loop-i.used) (drop c.loop-i.used block))
 
-pub overflow-add-used-in-loop-i : goal.overflow-add-used-in-loop-i
-overflow-add-used-in-loop-i g c =
+pub overflow_add-used-in-loop-i : goal.overflow_add-used-in-loop-i
+overflow_add-used-in-loop-i g c =
     let block = c.args.block.now in
     let rest = take (length block - c.loop-i.used) (drop c.loop-i.used block) in
     omega (arith, within rest c.in-Some.end c.in-Some.ensures, length-take (length block - c.loop-i.used) (drop c.loop-i.used block), c.loop-i.invariant.1.inside)
@@ -43,17 +43,17 @@ loop-i-preserved g c =
     let m = g.T.FormatCipher.meaning c.args.coder.now.cipher in
     let before = views c.args.coder.now.lanes.records in
     let now = views c.loop-i.coder.lanes.records in
-    let after = views c.answer-line.new.coder.lanes.records in
+    let after = views c.answer_line.new.coder.lanes.records in
     let block = c.args.block.now in
     let used = c.loop-i.used in
     let n = c.in-Some.end in
     let rest = take (length block - used) (drop used block) in
     let line = take (n - 0) rest in
-    let P : Meaning → Type 0 = λ x. AnsweredLine x now after line c.answer-line.result in
+    let P : Meaning → Type 0 = λ x. AnsweredLine x now after line c.answer_line.result in
     let slot : c.loop-i.i < length c.loop-i.slots = omega arith in (
-      c.answer-line.ensures.same ∙ c.loop-i.invariant.0,
-      one_more m before now block used c.loop-i.i c.args.slots.now c.loop-i.slots c.loop-i.invariant.1 after n c.answer-line.result rest line (take_rest block used) (ap (λ k. take k rest) (let z : n - 0 ≡ n = omega arith in z)) c.in-Some.ensures slot
-          (subst P c.loop-i.invariant.0 c.answer-line.ensures.answered),
+      c.answer_line.ensures.same ∙ c.loop-i.invariant.0,
+      one_more m before now block used c.loop-i.i c.args.slots.now c.loop-i.slots c.loop-i.invariant.1 after n c.answer_line.result rest line (take_rest block used) (ap (λ k. take k rest) (let z : n - 0 ≡ n = omega arith in z)) c.in-Some.ensures slot
+          (subst P c.loop-i.invariant.0 c.answer_line.ensures.answered),
     )
 
 pub returns : goal.returns

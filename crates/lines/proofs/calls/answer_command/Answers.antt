@@ -13,7 +13,7 @@ returns-in-End g c =
     let x : Reply = record { answer = c.end.result; text = [] } in
     let e = c.in-End.is in
     record {
-      answered = made m (views c.args.coder.now.lanes.records) (views c.end.new.self.lanes.records) (Some (as_spelled c.args.command)) c.say-done.result (ends k) (λ r. done_line (Some k) r.answer) x
-          (ap (λ w. calls_in (Some (as_spelled w))) e) (λ say. sym (ap (λ w. printed_in say (Some (as_spelled w))) e)) (ap (done_line (Some k)) c.end.ensures.value) c.end.ensures.lanes c.end.ensures.follows c.say-done.ensures;
+      answered = made m (views c.args.coder.now.lanes.records) (views c.end.new.self.lanes.records) (Some (as_spelled c.args.command)) c.say_done.result (ends k) (λ r. done_line (Some k) r.answer) x
+          (ap (λ w. calls_in (Some (as_spelled w))) e) (λ say. sym (ap (λ w. printed_in say (Some (as_spelled w))) e)) (ap (done_line (Some k)) c.end.ensures.value) c.end.ensures.lanes c.end.ensures.follows c.say_done.ensures;
       same = c.end.ensures.same;
     }

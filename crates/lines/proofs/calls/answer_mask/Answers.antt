@@ -10,12 +10,12 @@ pub returns : goal.returns
 returns g c =
     let m = g.T.FormatCipher.meaning c.args.coder.now.cipher in
     let before = views c.args.coder.now.lanes.records in
-    let after = views c.mask-text.new.coder.lanes.records in
+    let after = views c.mask_text.new.coder.lanes.records in
     let k = c.args.lane in
     let code = c.args.code.now in
-    let p = c.mask-text.result in
+    let p = c.mask_text.result in
     record {
       answered = mask_cut m before after k code p
-          (subst (λ t. Answered m before after (Some (mask k t)) p) (part code c.front-text.result c.min-n.result c.min-n.ensures c.front-text.ensures) c.mask-text.ensures.answered);
-      same = c.mask-text.ensures.same;
+          (subst (λ t. Answered m before after (Some (mask k t)) p) (part code c.front-text.result c.min-n.result c.min-n.ensures c.front-text.ensures) c.mask_text.ensures.answered);
+      same = c.mask_text.ensures.same;
     }

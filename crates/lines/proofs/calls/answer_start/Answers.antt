@@ -17,7 +17,7 @@ returns-in-Ok g c =
     let x : Reply = record { answer = c.start.result; text = [] } in
     let e = c.in-Ok.ensures in
     record {
-      answered = made m (views c.args.coder.now.lanes.records) (views c.start.new.self.lanes.records) (Some (start k run c.args.shape.now)) c.say-done.result call (λ r. done_line (Some k) r.answer) x
-          (ap (start_calls k run) (sym e)) (λ say. ap (start_line say k run) e) (ap (done_line (Some k)) c.start.ensures.value) c.start.ensures.lanes c.start.ensures.follows c.say-done.ensures;
+      answered = made m (views c.args.coder.now.lanes.records) (views c.start.new.self.lanes.records) (Some (start k run c.args.shape.now)) c.say_done.result call (λ r. done_line (Some k) r.answer) x
+          (ap (start_calls k run) (sym e)) (λ say. ap (start_line say k run) e) (ap (done_line (Some k)) c.start.ensures.value) c.start.ensures.lanes c.start.ensures.follows c.say_done.ensures;
       same = c.start.ensures.same;
     }

@@ -20,13 +20,13 @@ returns g c =
     let r = c.mask-answer.result in
     let o = (stepped m before (masks k t)).outcome in
     let x : Reply = record { answer = r; text = text } in
-    let p = c.say-swapped.result in
+    let p = c.say_swapped.result in
     let value = c.mask-answer.ensures.value in
     let same_length : length text ≡ length t = omega arith in
     let printed : swap_line k r (take 32 text) ≡ swap_line k r text =
     ap (λ a. swap_line k a (take 32 text)) value ∙ whole k o t text (long_refused m m.forward t k (lane_at before k)) same_length ∙ sym (ap (λ a. swap_line k a text) value) in
     record {
       answered = made m before (views c.mask-answer.new.self.lanes.records) (Some (mask k t)) p (masks k t) (λ y. swap_line k y.answer y.text) x refl (λ say. refl)
-          (ap (λ a. swap_line k a text) value ∙ ap (swap_line k (answer o)) c.mask-answer.ensures.text) c.mask-answer.ensures.lanes c.mask-answer.ensures.follows (subst (Holds p) printed c.say-swapped.ensures);
+          (ap (λ a. swap_line k a text) value ∙ ap (swap_line k (answer o)) c.mask-answer.ensures.text) c.mask-answer.ensures.lanes c.mask-answer.ensures.follows (subst (Holds p) printed c.say_swapped.ensures);
       same = c.mask-answer.ensures.same;
     }

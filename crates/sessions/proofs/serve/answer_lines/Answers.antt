@@ -7,12 +7,12 @@ pub loop-used-smaller : goal.loop-used-smaller
 loop-used-smaller g c =
     let block = c.args.block.now in
     let used = c.loop-used.used in
-    let answered = c.answer-block-progress.ensures.answered in
+    let answered = c.answer_block-progress.ensures.answered in
     omega (
       arith,
       used_by_lines _ _ _ _ _ _ _ _ answered,
       answered.inside,
-      c.if-progress-lt-AT-A-TIME.false,
+      c.if-progress-lt-AT_A_TIME.false,
       c.loop-used.invariant.0,
       length-take (length block - used) (drop used block),
       length-drop used block,
