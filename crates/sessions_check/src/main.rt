@@ -22,10 +22,10 @@ fn main(rt: HostRuntime) -> io::Result<()> {
 
 // Adds a line to the session, or serves the session where the line ends it.
 fn take_line(rt: &HostRuntime, session: &mut Vec<u8>, line: &[u8]) -> io::Result<()> {
-    if line == b"=" {
+    if line == b"=".as_slice() {
         return serve_one(rt, session);
     }
-    if line == b"==" {
+    if line == b"==".as_slice() {
         let _ = session.pop();
         return serve_one(rt, session);
     }
