@@ -1,16 +1,15 @@
 -- What the cipher, its tags and its counter blocks give are bytes. Assumes nothing.
-use Rattle.std.proofs.Common.{◌≡◌, ℕ, zero, suc, ◌+◌, ◌*◌, ◌/◌, ◌%◌, ◌^◌, ◌<◌, ◌≤◌, Bool, true, false, cond, ◌⊎◌, List, [], ◌∷◌, ◌++◌, length, get_or, take, drop, sym, refl, ap, ◌∙◌, subst, inl, inr, mod-lt, mul-le-mul_left, pow-suc, mul-one, arith, lit<, pow_pos}
+use Rattle.std.proofs.Common.{ℕ, zero, suc, ◌+◌, ◌*◌, ◌/◌, ◌%◌, ◌^◌, ◌<◌, ◌≤◌, List, [], ◌∷◌, ◌++◌, get_or, take, drop, sym, subst, mod-lt, mul-le-mul_left, pow-suc, mul-one, arith, lit<}
 use lib.Bits.{bit_xor, xor_lt}
 use Rattle.std.specs.List.{AllByRecursion as All}
 use Rattle.std.proofs.ByRecursion.{All-append}
-use Rattle.block_cipher.specs.Field.{x_times, bit, affine_bit, from_bits, affine, sbox, inverse}
+use Rattle.block_cipher.specs.Field.{x_times, affine_bit, from_bits, affine, sbox, inverse}
 use Rattle.block_cipher.specs.Aes.{block, sub_bytes, shift_rows, xor_block, add_round_key, word, xor_word, sub_word, rot_word, rcon_word, next_round_key, rcon, round_key, rounds, cipher}
 use Rattle.block_cipher.specs.Counter.{counter_block}
 use Rattle.block_cipher.specs.Cmac.{chained, cmac, last_block}
-use Rattle.block_cipher.specs.Words.{quad, bytes_of}
+use Rattle.block_cipher.specs.Words.{quad}
 use Rattle.block_cipher.specs.Keyed.{key_of}
 use Rattle.block_cipher.specs.MacKey.{mac_key_of}
-use Rattle.block_cipher.specs.declared.aes.Aes128.{Aes128}
 use Rattle.block_cipher.specs.declared.cmac.Cmac.{Cmac}
 
 abbrev pub Bytes : List ℕ → Type 0

@@ -1,11 +1,11 @@
 -- Blocks as numbers: bytes lowest first and highest first, in words and whole. Assumes nothing.
-use Rattle.std.proofs.Common.{◌≡◌, ℕ, zero, suc, ◌+◌, ◌*◌, ◌/◌, ◌%◌, ◌^◌, ◌<◌, List, [], ◌∷◌, ◌++◌, length, get_or, replicate, sym, refl, ap, ◌∙◌, mod-eq_of_lt, div-one, arith, lit<}
+use Rattle.std.proofs.Common.{◌≡◌, ℕ, ◌+◌, ◌*◌, ◌/◌, ◌%◌, ◌^◌, ◌<◌, List, [], ◌∷◌, ◌++◌, length, get_or, replicate, sym, refl, ap, ◌∙◌, mod-eq_of_lt, div-one, arith, lit<}
 use lib.Bits.{bit_and, bit_xor, and_mask, xor_shr, xor_mod}
 use borrow.Rule.Slice.PartMut.{put_mid}
 use Rattle.std.proofs.lemmas.Nat.{field_of, mod-pow-add, mod-mul-add, div-mul-add, mod_below, shr-shr}
 use Rattle.block_cipher.specs.Aes.{block, xor_block, cipher}
 use Rattle.block_cipher.specs.Counter.{number, bytes16, counter_block}
-use Rattle.block_cipher.specs.Words.{quad, bytes_of, little16}
+use Rattle.block_cipher.specs.Words.{quad, little16}
 use Rattle.block_cipher.proofs.Quads.{whole, word_of, join4}
 
 -- what `from_be_bytes` answers

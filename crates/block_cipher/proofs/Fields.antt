@@ -1,7 +1,7 @@
 -- The tables' rules and the inverse, each by one computed test and a lemma that gives it at each entry.
 -- Assumes nothing.
-use Rattle.std.proofs.Common.{◌≡◌, ℕ, zero, suc, ◌/◌, ◌%◌, ◌<◌, Bool, ◌&&◌, ◌||◌, T, eqb, List, [], ◌∷◌, length, get_or, arith, eqb→eq}
-use Rattle.block_cipher.specs.Field.{x_times, mul_low, mul, square, squares, inverse, bit, affine_bit, from_bits, affine, sbox, Inverts}
+use Rattle.std.proofs.Common.{◌≡◌, ℕ, zero, suc, ◌/◌, ◌%◌, ◌<◌, Bool, ◌&&◌, T, eqb, List, [], ◌∷◌, length, get_or, arith, eqb→eq}
+use Rattle.block_cipher.specs.Field.{x_times, mul_low, mul, square, squares, inverse, sbox, Inverts}
 use Rattle.block_cipher.specs.Words.{entry, quad}
 use Rattle.block_cipher.proofs.Entries.{every, at, all_below, below, both_left, both_right}
 

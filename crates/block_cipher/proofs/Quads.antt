@@ -1,5 +1,5 @@
 -- The bytes of a word: under xor, under a rotation, and put together. Assumes nothing.
-use Rattle.std.proofs.Common.{◌≡◌, ℕ, zero, suc, ◌+◌, ◌-◌, ◌*◌, ◌/◌, ◌%◌, ◌^◌, ◌<◌, List, [], ◌∷◌, ◌++◌, length, get_or, sym, refl, ap, ◌∙◌, arith}
+use Rattle.std.proofs.Common.{◌≡◌, ℕ, zero, suc, ◌+◌, ◌*◌, ◌/◌, ◌%◌, ◌<◌, List, [], ◌∷◌, ◌++◌, length, get_or, sym, refl, ap, ◌∙◌, arith}
 use lib.Bits.{bit_xor, xor_zero_r, xor_shr, xor_mod, xor_assoc, xor_comm}
 use Rattle.block_cipher.specs.Field.{mul, sbox}
 use Rattle.block_cipher.specs.Aes.{block, mix_row, xor_word, sub_word, rot_word, rcon_word}

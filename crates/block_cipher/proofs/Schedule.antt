@@ -1,5 +1,5 @@
 -- The round keys and the rounds, one after the other, and a counter as bytes. Assumes nothing.
-use Rattle.std.proofs.Common.{◌≡◌, ℕ, zero, suc, ◌+◌, List, [], ◌∷◌, get_or, sym, refl, ap, ◌∙◌}
+use Rattle.std.proofs.Common.{◌≡◌, ℕ, suc, List, [], ◌∷◌, get_or, refl, ap, ◌∙◌}
 use Rattle.block_cipher.specs.Field.{x_times}
 use Rattle.block_cipher.specs.Aes.{sub_bytes, shift_rows, mix_columns, add_round_key, next_round_key, rcon, round_key, key_expansion, rounds, cipher}
 

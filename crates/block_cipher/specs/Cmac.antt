@@ -2,7 +2,7 @@
 --   subkey1, subkey2  the two subkeys of a key
 --   last_block        the last block of a message, complete or padded, with its subkey
 --   cmac              the tag of a message under a key
-use Rattle.std.specs.Prelude.{ℕ, zero, suc, ◌+◌, ◌-◌, ◌*◌, ◌/◌, ◌%◌, ◌^◌, cond, List, [], ◌∷◌, ◌++◌, length, take, drop, replicate, ◌==◌, bit_xor, nat_lt}
+use Rattle.std.specs.Prelude.{ℕ, zero, suc, ◌-◌, ◌*◌, ◌/◌, ◌%◌, ◌^◌, cond, List, ◌∷◌, ◌++◌, length, take, drop, replicate, ◌==◌, bit_xor, nat_lt}
 use Rattle.block_cipher.specs.Aes.{xor_block, cipher}
 use Rattle.block_cipher.specs.Counter.{number, bytes16}
 

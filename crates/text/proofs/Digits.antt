@@ -1,12 +1,12 @@
 -- What digits spell. Assumes nothing.
-use Rattle.std.proofs.Common.{◌≡◌, ℕ, zero, suc, ◌+◌, ◌-◌, ◌*◌, ◌/◌, ◌%◌, ◌<◌, ◌≤◌, Bool, true, false, cond, ◌&&◌, eqb, leb, List, [], ◌∷◌, ◌++◌, length, get_or, take, drop, set, is_some, Some, None, Option, sym, refl, ap, ◌∙◌, inl, inr, arith, length-set}
+use Rattle.std.proofs.Common.{◌≡◌, ℕ, ◌+◌, ◌*◌, ◌/◌, ◌%◌, ◌<◌, true, false, eqb, List, [], ◌∷◌, ◌++◌, length, get_or, take, drop, set, is_some, Some, None, Option, sym, refl, ap, ◌∙◌, inl, inr, arith, length-set}
 use Rattle.std.specs.Option.{option_map}
 use Rattle.std.proofs.lemmas.List.{drop_more, append_assoc, append-nil, take_all, take_more, take_more_set, at_drop_more, at_drop_all}
 use Rattle.std.proofs.lemmas.Bool.Decides.{nat_tests}
 use Rattle.std.proofs.lemmas.Bool.{true≢false, cases_Bool, eqb-true, eqb-false, eq-eqb, ne_eqb, cond-true, cond-false}
 use Rattle.text.specs.declared.hex.Letters.{Letters}
 use Rattle.text.specs.declared.hex.Letters.TheVariants.{Upper, Either}
-use Rattle.text.specs.Hex.{within, upper_digit, either_digit, digit_of, both, byte_of, bytes_of, block_of, number_from, number_of, lower_digit, digits_of, Bytes, ReadsBack}
+use Rattle.text.specs.Hex.{digit_of, both, byte_of, bytes_of, block_of, lower_digit, digits_of, Bytes, ReadsBack}
 
 -- a digit's value is below 16
 pub digit_below : (l : Letters) (b d : ℕ) → Some d ≡ digit_of l b → d < 16

@@ -1,5 +1,5 @@
 -- What a reader hands out, and what it has left then. Assumes nothing.
-use Rattle.std.proofs.Common.{◌≡◌, ℕ, ◌-◌, List, [], length, take, Some, None, Option, sym, refl, ap, ◌∙◌, arith, Bor}
+use Rattle.std.proofs.Common.{◌≡◌, ℕ, ◌-◌, List, length, take, Some, None, Option, sym, ap, ◌∙◌, arith, Bor}
 use Rattle.std.specs.Option.{option_map}
 use Rattle.text.specs.Words.{first_word, later_words, words_of}
 use Rattle.text.specs.Readers.{words_in, first_of, rest_of}

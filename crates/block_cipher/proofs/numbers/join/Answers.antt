@@ -1,4 +1,4 @@
-use Rattle.std.proofs.Common.{◌≡◌, ◌+◌, ◌*◌, ◌%◌, ◌^◌, rules}
+use Rattle.std.proofs.Common.{rules}
 use Rattle.block_cipher.proofs.Digits.{join_is}
 use Rattle.block_cipher.proofs.numbers.join.Goals as goal
 
