@@ -1,8 +1,7 @@
-//! Links the static libraries that `rt staticlib` writes, and the C part of the toolchain.
+//! Links the static libraries that `tools/staticlib` builds.
 
 use std::env;
-use std::path::{Path, PathBuf};
-use std::process::Command;
+use std::path::Path;
 
 const LIBRARIES: [&str; 2] = ["block_cipher", "network_c"];
 
@@ -15,23 +14,9 @@ fn main() {
         let library = folder.join(format!("lib{name}.a"));
         println!("cargo::rerun-if-changed={}", library.display());
         if !library.exists() {
-            println!("cargo::error=run `rt staticlib {name}` in the repository's root first");
+            println!("cargo::error=run `tools/staticlib` first");
             return;
         }
         println!("cargo::rustc-link-lib=static={name}");
     }
-    if let Some(kit) = kit() {
-        println!(
-            "cargo::rustc-link-search=native={}",
-            kit.join("lib").display()
-        );
-        println!("cargo::rustc-link-lib=static=rattle_c");
-    }
-}
-
-/// The toolchain's folder: `rt doc` prints a path in a folder of it.
-fn kit() -> Option<PathBuf> {
-    let answer = Command::new("rt").arg("doc").output().ok()?;
-    let page = String::from_utf8(answer.stdout).ok()?;
-    Some(Path::new(page.trim()).parent()?.parent()?.to_path_buf())
 }

@@ -2,7 +2,7 @@
 use Rattle.std.proofs.Common.{◌≡◌, ℕ, ◌+◌, ◌<◌, ◌≤◌, Bool, true, false, ◌&&◌, eqb, leb, List, [], ◌∷◌, length, get_or, drop, sym, refl, ap, ◌∙◌, arith}
 use Rattle.std.proofs.lemmas.List.{at_drop_more, at_drop_all}
 use Rattle.std.proofs.lemmas.Bool.{eqb-false, le-leb, leb-true, and_parts, and_from}
-use Rattle.std.specs.List.{AllByRecursion as All}
+use Rattle.std.specs.List.{AllByRecursion}
 use Rattle.alphabets.specs.RunNames.{every, printable, legal, Tells}
 
 -- the loop that asks whether a test passes at every entry
@@ -25,14 +25,14 @@ legal_by name b some most e =
     sym e ∙ sym (ap (λ t. (t && leb (length name) 32) && every printable name) (le-leb 1 (length name) least) ∙ ap (λ t. t && every printable name) (le-leb (length name) 32 most))
 
 -- the test of run names tells them
-shown_all : (name : List ℕ) → every printable name ≡ true → All (λ b. (33 ≤ b) × (b ≤ 126)) name
+shown_all : (name : List ℕ) → every printable name ≡ true → AllByRecursion (λ b. (33 ≤ b) × (b ≤ 126)) name
 shown_all [] e = tt
 shown_all (b ∷ bs) e =
     let both = and_parts (printable b) (every printable bs) e in
     let parts = and_parts (leb 33 b) (leb b 126) both.0 in
     ((leb-true 33 b parts.0, leb-true b 126 parts.1), shown_all bs both.1)
 
-all_shown : (name : List ℕ) → All (λ b. (33 ≤ b) × (b ≤ 126)) name → every printable name ≡ true
+all_shown : (name : List ℕ) → AllByRecursion (λ b. (33 ≤ b) × (b ≤ 126)) name → every printable name ≡ true
 all_shown [] all = refl
 all_shown (b ∷ bs) all =
     and_from (printable b) (every printable bs) (and_from (leb 33 b) (leb b 126) (le-leb 33 b all.0.0) (le-leb b 126 all.0.1)) (all_shown bs all.1)

@@ -5,7 +5,7 @@
 --   name_verdict  what a check of one answers
 --   Tells         the test passes the run names, and nothing else
 use Rattle.std.specs.Prelude.{◌≡◌, ℕ, ◌≤◌, Bool, true, cond, ◌&&◌, List, [], ◌∷◌, length, Ok, Err, Result, nat_le}
-use Rattle.std.specs.List.{AllByRecursion as All}
+use Rattle.std.specs.List.{AllByRecursion}
 use Rattle.faults.specs.declared.fault.Cause.TheVariants.{RunName}
 use Rattle.faults.specs.declared.fault.Fault.{Fault}
 use Rattle.faults.specs.Faults.{own}
@@ -13,7 +13,7 @@ use Rattle.faults.specs.Faults.{own}
 pub record IsRunName (name : List ℕ) : Type 0 where
   pub some : 1 ≤ length name
   pub short : length name ≤ 32
-  pub shown : All (λ b. (33 ≤ b) × (b ≤ 126)) name
+  pub shown : AllByRecursion (λ b. (33 ≤ b) × (b ≤ 126)) name
 
 abbrev pub every : (ℕ → Bool) → List ℕ → Bool
 every f [] = true

@@ -1,7 +1,7 @@
 -- What the cipher, its tags and its counter blocks give are bytes. Assumes nothing.
 use Rattle.std.proofs.Common.{ℕ, zero, suc, ◌+◌, ◌*◌, ◌/◌, ◌%◌, ◌^◌, ◌<◌, ◌≤◌, List, [], ◌∷◌, ◌++◌, get_or, take, drop, sym, subst, mod-lt, mul-le-mul_left, pow-suc, mul-one, arith, lit<}
 use lib.Bits.{bit_xor, xor_lt}
-use Rattle.std.specs.List.{AllByRecursion as All}
+use Rattle.std.specs.List.{AllByRecursion}
 use Rattle.std.proofs.ByRecursion.{All-append}
 use Rattle.block_cipher.specs.Field.{x_times, affine_bit, from_bits, affine, sbox, inverse}
 use Rattle.block_cipher.specs.Aes.{block, sub_bytes, shift_rows, xor_block, add_round_key, word, xor_word, sub_word, rot_word, rcon_word, next_round_key, rcon, round_key, rounds, cipher}
@@ -13,7 +13,7 @@ use Rattle.block_cipher.specs.MacKey.{mac_key_of}
 use Rattle.block_cipher.specs.declared.cmac.Cmac.{Cmac}
 
 abbrev pub Bytes : List ℕ → Type 0
-Bytes xs = All (λ x. x < 256) xs
+Bytes xs = AllByRecursion (λ x. x < 256) xs
 
 xor_byte : (a b : ℕ) → a < 256 → b < 256 → bit_xor a b < 256
 xor_byte a b ha hb = xor_lt 8 a b ha hb

@@ -1,5 +1,5 @@
 -- One reading after another. Assumes nothing.
-use Rattle.std.proofs.Common.{◌≡◌, ℕ, true, false, List, Ok, Err, Option, Result, sym, refl, ap, ◌∙◌}
+use Rattle.std.proofs.Common.{◌≡◌, ℕ, true, false, List, Ok, Err, Option, Result, sym, ap, ◌∙◌}
 use Rattle.block_lines.specs.declared.unreadable.Unreadable.{Unreadable}
 use Rattle.block_lines.specs.declared.unreadable.Unreadable.TheVariants.{Key}
 use Rattle.block_lines.specs.declared.request.Command.{Command}

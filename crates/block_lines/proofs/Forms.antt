@@ -1,5 +1,5 @@
 -- What lines of each form are answered. Assumes nothing.
-use Rattle.std.proofs.Common.{◌≡◌, ℕ, ◌+◌, ◌-◌, Bool, true, false, cond, List, [], ◌∷◌, ◌++◌, length, drop, is_some, Some, None, Ok, Err, codes, Option, Result, sym, refl, ap, ◌∙◌, subst, inl, inr, arith}
+use Rattle.std.proofs.Common.{◌≡◌, ℕ, ◌-◌, Bool, true, false, cond, List, [], ◌∷◌, ◌++◌, length, drop, is_some, Some, None, Ok, Err, codes, Option, Result, sym, refl, ap, ◌∙◌, subst, inl, inr, arith}
 use Rattle.std.specs.Option.{ok_or}
 use Rattle.std.specs.Str.{bytes_eq}
 use Rattle.std.proofs.lemmas.List.{append-nil, append_assoc, drop_all, drop_at, length-append}
@@ -19,9 +19,9 @@ use Rattle.block_lines.specs.declared.unreadable.Unreadable.TheVariants as why
 use Rattle.block_lines.specs.declared.request.Command.{Command}
 use Rattle.block_lines.specs.declared.request.Command.TheVariants as command
 use Rattle.block_lines.specs.declared.request.Request.{Request}
-use Rattle.block_lines.specs.declared.request.Request.TheVariants.{Nothing, Encrypt, Counter, Cmac}
+use Rattle.block_lines.specs.declared.request.Request.TheVariants.{Encrypt, Counter, Cmac}
 use Rattle.block_lines.specs.Requests.{and_then, present_in, ended, command_of, command_in, arguments_of, block_in, number_in, digits_in, encrypt_of, counter_of, cmac_of, words_ask, silent, request_of}
-use Rattle.block_lines.specs.Answers.{last_of, tag_of, answer_to, answer_of, Asks, encrypt, counter, tag, tag_of_nothing, Answered}
+use Rattle.block_lines.specs.Answers.{last_of, answer_to, answer_of, Asks, encrypt, counter, tag, tag_of_nothing, Answered}
 use Rattle.block_lines.proofs.Chains.{goes_on, nothing_asked, words_ask_lem}
 use Rattle.block_lines.proofs.Replies.{replies, silence}
 

@@ -1,10 +1,9 @@
 -- A message read where it stands, and its tag. Assumes nothing.
-use Rattle.std.proofs.Common.{◌≡◌, ℕ, ◌-◌, ◌≤◌, List, [], ◌∷◌, ◌++◌, length, take, drop, Some, None, Ok, Err, Option, Result, sym, refl, ap, ◌∙◌, arith}
+use Rattle.std.proofs.Common.{◌≡◌, ℕ, ◌-◌, ◌≤◌, List, length, take, drop, Some, None, Ok, Option, ap, ◌∙◌, arith}
 use Rattle.std.specs.Option.{option_map, ok_or}
 use Rattle.std.proofs.lemmas.List.{length-append, take_at}
 use Rattle.text.specs.Hex.{in_place}
 use Rattle.block_cipher.specs.Cmac.{cmac}
-use Rattle.block_lines.specs.declared.unreadable.Unreadable.{Unreadable}
 use Rattle.block_lines.specs.declared.unreadable.Unreadable.TheVariants.{Message}
 use Rattle.block_lines.specs.Requests.{and_then}
 

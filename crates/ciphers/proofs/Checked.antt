@@ -9,7 +9,7 @@ use Rattle.faults.specs.Faults.{own}
 use Rattle.formats.specs.Forms.{Form}
 use Rattle.alphabets.specs.RunNames.{legal}
 use Rattle.ciphers.specs.Meanings.{Meaning}
-use Rattle.ciphers.specs.Swaps.{checked, Outcome, refused, swapped, unless_barred, unless_refused, swap, answer, left, barred_past, passed_up}
+use Rattle.ciphers.specs.Swaps.{checked, refused, swapped, unless_barred, unless_refused, swap, answer, barred_past, passed_up}
 
 module _ (taken : Bool) (f : Form) (run c : List ℕ) where
   pub bad_run : legal run ≡ false → checked taken f run c ≡ Err (own RunName)

@@ -1,6 +1,6 @@
 -- A flat table with each row twice finds the image of a sum. Assumes nothing.
-use Rattle.std.proofs.Common.{◌≡◌, ℕ, zero, suc, ◌+◌, ◌-◌, ◌*◌, ◌%◌, ◌<◌, ◌≤◌, ◌⊎◌, List, [], ◌∷◌, ◌++◌, length, get_or, take, drop, sym, refl, ap, ◌∙◌, inl, inr, not-suc-le-zero, add_assoc, mod-eq_of_lt, suc-mul, add_comm, zero-add, zero-mul, arith}
-use native.Mathlib.Nat.{add-mod_left, add-mod_right}
+use Rattle.std.proofs.Common.{◌≡◌, ℕ, zero, suc, ◌+◌, ◌-◌, ◌*◌, ◌%◌, ◌<◌, ◌≤◌, List, [], ◌++◌, length, get_or, take, drop, sym, ap, ◌∙◌, inl, inr, not-suc-le-zero, mod-eq_of_lt, suc-mul, zero-add, zero-mul, arith}
+use native.Mathlib.Nat.{add-mod_right}
 use Rattle.std.proofs.lemmas.Nat.{mul-add-lt}
 use Rattle.std.proofs.lemmas.List.{length-append, length-drop, length-take-le, get_or_append_left, get_or-append_right, get_or-append-add, get_or-take}
 use Rattle.std.proofs.lemmas.Bool.{cases_lt}

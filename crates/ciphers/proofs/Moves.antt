@@ -1,5 +1,5 @@
 -- The window: what a layer writes, and how the window moves on, up and down. Assumes nothing.
-use Rattle.std.proofs.Common.{◌≡◌, ℕ, zero, suc, ◌+◌, ◌-◌, ◌%◌, ◌<◌, ◌≤◌, cond, eqb, ◌≢◌, List, [], ◌∷◌, ◌++◌, length, get_or, take, drop, set, sym, refl, ap, ◌∙◌, subst, not-suc-le-zero, add-zero, mod-eq_of_lt, suc-add, zero-add, add-one, arith, get_or-set_other, get_or-set_same, take-suc-set}
+use Rattle.std.proofs.Common.{◌≡◌, ℕ, zero, suc, ◌+◌, ◌-◌, ◌%◌, ◌<◌, ◌≤◌, eqb, ◌≢◌, List, [], ◌∷◌, ◌++◌, length, get_or, take, drop, set, sym, refl, ap, ◌∙◌, not-suc-le-zero, add-zero, mod-eq_of_lt, suc-add, zero-add, add-one, arith, get_or-set_other, get_or-set_same, take-suc-set}
 use native.Mathlib.Nat.{add-mod_right}
 use Rattle.std.proofs.lemmas.List.{get_or-take, get_or-drop, drop_more, drop_all, length-take-le, length-drop, take-take, drop-set}
 use Rattle.std.proofs.lemmas.Bool.{cond-true, cond-false, eq-eqb, ne_eqb}

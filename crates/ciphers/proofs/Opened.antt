@@ -1,10 +1,10 @@
 -- A window with a code in it: its parts, its length and its symbols. Assumes nothing.
-use Rattle.std.proofs.Common.{◌≡◌, ℕ, zero, suc, ◌+◌, ◌-◌, ◌<◌, ◌≤◌, List, [], ◌∷◌, ◌++◌, length, take, drop, replicate, sym, refl, ap, ◌∙◌, subst, arith}
+use Rattle.std.proofs.Common.{◌≡◌, ℕ, zero, suc, ◌+◌, ◌-◌, ◌<◌, ◌≤◌, List, ◌++◌, length, take, drop, replicate, sym, refl, ap, ◌∙◌, subst, arith}
 use borrow.Rule.Slice.PartMut.{put_mid}
 use Rattle.ciphers.specs.Tables.{Reads}
-use Rattle.std.specs.List.{AllByRecursion as All}
+use Rattle.std.specs.List.{AllByRecursion}
 use Rattle.std.proofs.ByRecursion.{All-append}
-use Rattle.std.proofs.lemmas.List.{append-nil, append_assoc, length-append, length-replicate, take-replicate, drop-replicate, drop-drop, drop_at, take_at}
+use Rattle.std.proofs.lemmas.List.{length-append, length-replicate, take-replicate, drop-replicate, drop-drop, drop_at, take_at}
 
 pub opens : (code part : List ℕ) (from k : ℕ) → part ≡ code → k ≡ length code → from + length code ≤ 2080
     → put_mid from k (replicate 2080 0) part ≡ replicate from 0 ++ (code ++ replicate (2080 - (from + length code)) 0)
@@ -26,15 +26,15 @@ module _ (code window : List ℕ) (from : ℕ) (is : window ≡ replicate from 0
       ap (λ l. take (length code) (drop from l)) is
       ∙ (ap (take (length code)) (drop_at (replicate from 0) _ from (length-replicate from 0)) ∙ take_at code _ (length code) refl)
 
-  pub window_symbols : (a : ℕ) → 0 < a → All (λ x. x < a) code → All (λ x. x < a) window
+  pub window_symbols : (a : ℕ) → 0 < a → AllByRecursion (λ x. x < a) code → AllByRecursion (λ x. x < a) window
   window_symbols a p h =
       let P : ℕ → Type 0 = λ x. x < a in
-      let zeros : (n : ℕ) → All P (replicate n 0) = λ n. all_zeros a p n in
-      let whole : All P (replicate from 0 ++ (code ++ replicate (2080 - (from + length code)) 0)) =
+      let zeros : (n : ℕ) → AllByRecursion P (replicate n 0) = λ n. all_zeros a p n in
+      let whole : AllByRecursion P (replicate from 0 ++ (code ++ replicate (2080 - (from + length code)) 0)) =
       All-append P (replicate from 0) _ (zeros from) (All-append P code _ h (zeros (2080 - (from + length code)))) in
       rw is whole
     where
-      all_zeros : (a : ℕ) → 0 < a → (n : ℕ) → All (λ x. x < a) (replicate n 0)
+      all_zeros : (a : ℕ) → 0 < a → (n : ℕ) → AllByRecursion (λ x. x < a) (replicate n 0)
       all_zeros a p zero = tt
       all_zeros a p (suc n) = (p, all_zeros a p n)
 

@@ -1,12 +1,12 @@
 -- The network undoes itself: sums and differences, one layer, a list of layers. Assumes nothing.
-use Rattle.std.specs.Prelude.{◌≡◌, ℕ, zero, suc, ◌+◌, ◌-◌, ◌%◌, ◌<◌, ◌≤◌, Bool, true, false, cond, ◌⊎◌, List, [], ◌∷◌, ◌++◌, length, take, drop, ◌==◌, slice_index, slice_index_or}
+use Rattle.std.specs.Prelude.{◌≡◌, ℕ, suc, ◌+◌, ◌-◌, ◌%◌, ◌<◌, List, [], ◌∷◌, ◌++◌, length, take, drop, ◌==◌, slice_index, slice_index_or}
 use Rattle.std.proofs.Math.Path.{refl, sym, ap}
 use Rattle.std.proofs.Common.{subst, ◌∙◌, inl, inr, arith, mod-lt, mod-eq_of_lt}
 use Rattle.std.proofs.Math.Nat.{add-mod_right, mod-add-mod}
-use Rattle.std.specs.List.{AllByRecursion as All}
+use Rattle.std.specs.List.{AllByRecursion}
 use Rattle.std.proofs.ByRecursion.{All-get_or, All-push, All-take, All-drop}
 use Rattle.std.proofs.lemmas.List.{length_push, length-take-le, length-drop, get_or_push, get_or_append_left, get_or-take, take_at, take_more, take_all}
-use Rattle.std.proofs.lemmas.Bool.{cases_Bool, cond-true, cond-false, eqb-true, eqb-false}
+use Rattle.std.proofs.lemmas.Bool.{cases_Bool, cond-true, cond-false, eqb-false}
 use Rattle.ciphers.specs.Layers.{plus, minus, image, less, more, forward_layer, backward_layer, core_encrypt, core_decrypt, Permutes, Near, Symbols, LayersUndo, CoreUndoes}
 
 -- sums and differences modulo a undo each other
@@ -157,29 +157,29 @@ module _ (a count len w v : ℕ) (boxes inverses : List (List ℕ)) (good : Perm
 
 -- a list of layers, from the laws of one
 module _ (a count len w v : ℕ) (boxes inverses : List (List ℕ)) (one : LayersUndo a count len w v boxes inverses) where
-  encrypt_stays : (is x : List ℕ) → All (λ i. i < count) is → Symbols a len x → Symbols a len (core_encrypt boxes a w v is x)
+  encrypt_stays : (is x : List ℕ) → AllByRecursion (λ i. i < count) is → Symbols a len x → Symbols a len (core_encrypt boxes a w v is x)
   unfolding core_encrypt
   encrypt_stays [] x h s = s
   encrypt_stays (i ∷ is) x h s = encrypt_stays is (forward_layer boxes a w v i x) h.1 (one.forward_stays i x h.0 s)
 
-  decrypt_stays : (is y : List ℕ) → All (λ i. i < count) is → Symbols a len y → Symbols a len (core_decrypt inverses a w v is y)
+  decrypt_stays : (is y : List ℕ) → AllByRecursion (λ i. i < count) is → Symbols a len y → Symbols a len (core_decrypt inverses a w v is y)
   unfolding core_decrypt
   decrypt_stays [] y h s = s
   decrypt_stays (i ∷ is) y h s = one.backward_stays i (core_decrypt inverses a w v is y) h.0 (decrypt_stays is y h.1 s)
 
-  encrypt_undone : (is x : List ℕ) → All (λ i. i < count) is → Symbols a len x → core_decrypt inverses a w v is (core_encrypt boxes a w v is x) ≡ x
+  encrypt_undone : (is x : List ℕ) → AllByRecursion (λ i. i < count) is → Symbols a len x → core_decrypt inverses a w v is (core_encrypt boxes a w v is x) ≡ x
   unfolding core_encrypt core_decrypt
   encrypt_undone [] x h s = refl
   encrypt_undone (i ∷ is) x h s =
       ap (backward_layer inverses a w v i) (encrypt_undone is (forward_layer boxes a w v i x) h.1 (one.forward_stays i x h.0 s)) ∙ one.forward_undone i x h.0 s
 
-  decrypt_undone : (is y : List ℕ) → All (λ i. i < count) is → Symbols a len y → core_encrypt boxes a w v is (core_decrypt inverses a w v is y) ≡ y
+  decrypt_undone : (is y : List ℕ) → AllByRecursion (λ i. i < count) is → Symbols a len y → core_encrypt boxes a w v is (core_decrypt inverses a w v is y) ≡ y
   unfolding core_encrypt core_decrypt
   decrypt_undone [] y h s = refl
   decrypt_undone (i ∷ is) y h s =
       ap (core_encrypt boxes a w v is) (one.backward_undone i (core_decrypt inverses a w v is y) h.0 (decrypt_stays is y h.1 s)) ∙ decrypt_undone is y h.1 s
 
-  pub core_undoes : (is : List ℕ) → All (λ i. i < count) is → CoreUndoes a len w v boxes inverses is
+  pub core_undoes : (is : List ℕ) → AllByRecursion (λ i. i < count) is → CoreUndoes a len w v boxes inverses is
   core_undoes is h = record {
     encrypt_stays = λ x. encrypt_stays is x h;
     decrypt_stays = λ y. decrypt_stays is y h;

@@ -11,7 +11,7 @@
 --   CoreUndoes      so is a list of layers
 -- A pool is a list of boxes, and a box the list of its images. The branch distances are w and v.
 use Rattle.std.specs.Prelude.{◌≡◌, ℕ, ◌+◌, ◌-◌, ◌%◌, ◌<◌, cond, List, [], ◌∷◌, ◌++◌, length, take, drop, ◌==◌, slice_index, slice_index_or}
-use Rattle.std.specs.List.{AllByRecursion as All}
+use Rattle.std.specs.List.{AllByRecursion}
 
 abbrev pub plus : ℕ → ℕ → ℕ → ℕ
 plus a x y = (x + y) % a
@@ -65,7 +65,7 @@ pub record Near (len w v : ℕ) : Type 0 where
 -- strings of symbols of a length
 pub record Symbols (a len : ℕ) (x : List ℕ) : Type 0 where
   pub long : length x ≡ len
-  pub each : All (λ s. s < a) x
+  pub each : AllByRecursion (λ s. s < a) x
 
 pub record LayersUndo (a count len w v : ℕ) (boxes inverses : List (List ℕ)) : Type 0 where
   pub forward_stays : (i : ℕ) (x : List ℕ) → i < count → Symbols a len x → Symbols a len (forward_layer boxes a w v i x)

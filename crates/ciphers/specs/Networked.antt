@@ -1,13 +1,12 @@
 -- The network's laws, its branch distances and its index sequences. Assumes nothing.
-use Rattle.std.specs.Prelude.{◌≡◌, ℕ, zero, suc, ◌+◌, ◌-◌, ◌*◌, ◌/◌, ◌%◌, ◌<◌, ◌≤◌, min, max, Bool, true, ◌&&◌, T, List, [], ◌∷◌, length, None, Ok, Err, Result, ◌==◌, nat_le, nat_lt, refl}
+use Rattle.std.specs.Prelude.{◌≡◌, ℕ, zero, suc, ◌+◌, ◌-◌, ◌*◌, ◌/◌, ◌<◌, ◌≤◌, true, ◌&&◌, T, List, length, Ok, Err, Result, ◌==◌, nat_le, nat_lt, refl}
 use Rattle.std.proofs.Common.{sym, ap, subst, ◌∙◌, mul-le-mul_right, one-mul, arith, ltb→lt}
 use Rattle.std.proofs.Math.Nat.{mul-mod_left}
-use Rattle.std.specs.List.{AllByRecursion as All}
+use Rattle.std.specs.List.{AllByRecursion}
 use Rattle.std.proofs.ByRecursion.{All-append, All-take}
-use Rattle.std.proofs.lemmas.Bool.{and_parts, and_from, eqb-true, leb-true, ltb-true, le-leb, eq-eqb, cond-true}
+use Rattle.std.proofs.lemmas.Bool.{and_parts, and_from, eqb-true, leb-true, le-leb, eq-eqb, cond-true}
 use Rattle.block_cipher.specs.Cmac.{cmac}
 use Rattle.block_cipher.specs.Counter.{counter_block}
-use Rattle.block_cipher.specs.MacKey.{mac_key_of}
 use Rattle.block_cipher.proofs.Bytes.{Bytes, counter_bytes, cmac_bytes, mac_key_bytes}
 use Rattle.block_cipher.proofs.Entries.{all_below, below}
 use Rattle.alphabets.specs.declared.alphabet.Alphabet.{Alphabet}
@@ -21,14 +20,14 @@ use Rattle.faults.specs.declared.fault.Fault.{Fault}
 use Rattle.faults.specs.Faults.{own}
 use Rattle.keys.specs.Derived.{derived_key}
 use Rattle.keys.specs.declared.distances.Distances.{Distances}
-use Rattle.keys.specs.Distances.{root, w_of, w'_of, distances, distances_of}
+use Rattle.keys.specs.Distances.{w_of, w'_of, distances, distances_of}
 use Rattle.keys.specs.Encodings.{Purpose, encode}
-use Rattle.keys.specs.Sequences.{index_sequence, sequence_list, first_half, start_of, blocks, stream, sized, pooled, layered}
+use Rattle.keys.specs.Sequences.{index_sequence, sequence_list, first_half, start_of, blocks, stream, sized}
 use Rattle.pools.specs.declared.pool.Pool.{Pool}
 use Rattle.pools.specs.Pools.{boxes, inverses}
 use Rattle.ciphers.specs.Held.{network_of}
-use Rattle.ciphers.specs.Layers.{image, core_encrypt, core_decrypt, Permutes, Near, Symbols, CoreUndoes}
-use Rattle.ciphers.specs.Meanings.{Meaning, Free, Undone, Laws}
+use Rattle.ciphers.specs.Layers.{image, Permutes, Near, Symbols, CoreUndoes}
+use Rattle.ciphers.specs.Meanings.{Free, Undone, Laws}
 use Rattle.ciphers.specs.Networks.{Network, networked, indices_of}
 use Rattle.ciphers.specs.declared.fast.Fast.{Fast}
 use Rattle.ciphers.specs.Layered.{layers_undo, core_undoes}
@@ -64,10 +63,10 @@ module _ (net : Network) (f : Form) (t : (networked net).taken f ≡ true) where
   two_symbols = leb-true _ _ (and_parts (radix_of f.alphabet == net.radix) (nat_le 2 f.len) t).1
 
   pub as_symbols_lem : (c : List ℕ) → Code f c → Symbols net.radix f.len c
-  as_symbols_lem c h = record { long = h.long; each = subst (λ (a : ℕ). All (λ x. x < a) c) same_radix h.symbols }
+  as_symbols_lem c h = record { long = h.long; each = subst (λ (a : ℕ). AllByRecursion (λ x. x < a) c) same_radix h.symbols }
 
   as_code : (c : List ℕ) → Symbols net.radix f.len c → Code f c
-  as_code c s = record { long = s.long; symbols = subst (λ (a : ℕ). All (λ x. x < a) c) (sym same_radix) s.each }
+  as_code c s = record { long = s.long; symbols = subst (λ (a : ℕ). AllByRecursion (λ x. x < a) c) (sym same_radix) s.each }
 
   free : (c : List ℕ) → Symbols net.radix f.len c → Free (networked net) f c
   free c s = record { code = as_code c s; open_to = refl }

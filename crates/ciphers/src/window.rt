@@ -1,6 +1,6 @@
 // FAST's layers over a window that moves: a layer writes one symbol past the end, and nothing is shifted.
 ghost use Rattle.std.specs.Prelude.{◌≡◌, ◌+◌, ◌-◌, ◌*◌, ◌%◌, ◌<◌, ◌≤◌, length, take, drop, slice_index};
-ghost use Rattle.std.specs.List.{AllByRecursion as All};
+ghost use Rattle.std.specs.List.{AllByRecursion};
 ghost use Rattle.pools.specs.Rows.{rows_of};
 ghost use Rattle.ciphers.specs.Layers.{image, plus, minus, less, more, core_encrypt, core_decrypt, Near};
 ghost use Rattle.ciphers.specs.Tables.{Reads};
@@ -19,7 +19,7 @@ pub(crate) fn encrypt(
     requires table { Reads radix table.now }
     requires near { (Near len w v) × (len ≤ 32) }
     requires room { (length indices.now + len ≤ length window.old) × (length indices.now ≤ 2048) }
-    requires symbols { All (λ x. x < radix) window.old }
+    requires symbols { AllByRecursion (λ x. x < radix) window.old }
     ensures { take len (drop (length indices.now) window.new) ≡ core_encrypt (rows_of radix 256 table.now) radix w v indices.now (take len window.old) }
 {
     let mut oldest = window[len.saturating_sub(3)];
@@ -73,7 +73,7 @@ pub(crate) fn decrypt(
     requires table { Reads radix table.now }
     requires near { (Near len w v) × (len ≤ 32) }
     requires room { (length indices.now + len ≤ length window.old) × (length indices.now ≤ 2048) }
-    requires symbols { All (λ x. x < radix) window.old }
+    requires symbols { AllByRecursion (λ x. x < radix) window.old }
     ensures { take len window.new ≡ core_decrypt (rows_of radix 256 table.now) radix w v indices.now (take len (drop (length indices.now) window.old)) }
 {
     let mut k = indices.len();

@@ -1,7 +1,7 @@
 -- Why a codebook is refused, and what it is where it is made. Assumes nothing.
 use Rattle.std.proofs.Common.{◌≡◌, ℕ, zero, suc, ◌-◌, ◌*◌, ◌^◌, ◌<◌, ◌≤◌, List, Some, None, Ok, Err, Option, Result, sym, refl, ap, ◌∙◌, subst, inl, inr, pow-suc, arith}
 use native.Mathlib.Nat.{pow-le-pow_right, pow-zero}
-use Rattle.std.specs.List.{range_with_len, AllByRecursion as All}
+use Rattle.std.specs.List.{range_with_len, AllByRecursion}
 use Rattle.std.proofs.lemmas.Result.{IfOk-at_ok}
 use Rattle.std.proofs.lemmas.Bool.{cases_lt}
 use Rattle.faults.specs.declared.fault.Cause.TheVariants.{CoinsShort}
@@ -79,7 +79,7 @@ many_or_few f coins b e =
       | inr h ↦ h
     ]
 
-made_sound : (f : Form) (coins : List ℕ) → All (λ b. b < 2) coins → (b : Book) → (making_book f coins).answer ≡ Ok b →
+made_sound : (f : Form) (coins : List ℕ) → AllByRecursion (λ b. b < 2) coins → (b : Book) → (making_book f coins).answer ≡ Ok b →
     (b.alphabet ≡ f.alphabet) × (b.len ≡ f.len) × Sound b
 unfolding code_count
 made_sound f coins bits b e =

@@ -5,7 +5,7 @@
 --   Made           what is made from coins is sound, and when nothing is made
 --   Examples       some counts, a codebook and what it does
 use Rattle.std.specs.Prelude.{◌≡◌, ℕ, ◌^◌, ◌<◌, ◌≤◌, true, List, [], ◌∷◌, Some, None, Ok, Err}
-use Rattle.std.specs.List.{AllByRecursion as All}
+use Rattle.std.specs.List.{AllByRecursion}
 use Rattle.alphabets.specs.declared.alphabet.Alphabet.TheVariants.{Decimal, Hex, Upper, Alphanumeric}
 use Rattle.faults.specs.declared.fault.Cause.TheVariants.{ShapeNotTaken, CoinsShort}
 use Rattle.faults.specs.declared.fault.Fault.{Fault}
@@ -53,7 +53,7 @@ pub record Made (f : Form) (coins : List ℕ) : Type 0 where
   -- fewer are refused for want of coins alone
   pub few : code_count f ≤ most_codes → 1 ≤ f.len → (fault : Fault) → (making_book f coins).answer ≡ Err fault → fault ≡ short
   -- what is made has the form's alphabet and length, and a permutation for its box
-  pub sound : All (λ b. b < 2) coins → (b : Book) → (making_book f coins).answer ≡ Ok b → (b.alphabet ≡ f.alphabet) × (b.len ≡ f.len) × Sound b
+  pub sound : AllByRecursion (λ b. b < 2) coins → (b : Book) → (making_book f coins).answer ≡ Ok b → (b.alphabet ≡ f.alphabet) × (b.len ≡ f.len) × Sound b
 
 -- eight bytes of coins, and the table that they make: each number goes to the next, and the last to the first
 abbrev pub some_coins : List ℕ

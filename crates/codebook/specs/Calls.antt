@@ -3,7 +3,7 @@ use Rattle.std.specs.Prelude.{◌≡◌, ℕ, ◌^◌, ◌<◌, ◌≤◌, Bool,
 use Rattle.std.proofs.Math.Path.{refl, sym, ap}
 use Rattle.std.proofs.Common.{subst, ◌∙◌, arith}
 use Rattle.std.specs.Option.{unwrap_or}
-use Rattle.std.specs.List.{AllByRecursion as All}
+use Rattle.std.specs.List.{AllByRecursion}
 use Rattle.faults.specs.declared.fault.Fault.{Fault}
 use Rattle.alphabets.specs.Alphabets.{radix_of}
 use Rattle.formats.specs.Forms.{Form}
@@ -47,14 +47,14 @@ module _ (b : Book) (f : Form) (run c : List ℕ) where
     good : checked (taken_by b f) f run c ≡ Ok tt
     good = ap (λ t. checked t f run c) (sym takes) ∙ sym ok
 
-    pub readable : radix_of b.alphabet ^ b.len ≤ 4096 → All (λ x. x < a) c × (a ^ length c ≤ 4096)
+    pub readable : radix_of b.alphabet ^ b.len ≤ 4096 → AllByRecursion (λ x. x < a) c × (a ^ length c ≤ 4096)
     readable few =
         let p = passed (taken_by b f) f run c (sym good) in
         let same = taken_same b f p.takes in
         let symbols : radix_of f.alphabet ≡ a = ap radix_of (sym same.0) ∙ sym radix in
         let power : a ^ length c ≡ radix_of b.alphabet ^ b.len =
         ap (λ n. n ^ length c) radix ∙ ap (λ n. radix_of b.alphabet ^ n) (p.code.long ∙ sym same.1) in
-        (subst (λ (n : ℕ). All (λ x. x < n) c) symbols p.code.symbols, omega arith)
+        (subst (λ (n : ℕ). AllByRecursion (λ x. x < n) c) symbols p.code.symbols, omega arith)
 
     pub number_read : {n : ℕ} → n ≡ number a c → Ok n ≡ numbered b f run c
     unfolding numbered

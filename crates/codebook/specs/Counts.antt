@@ -4,7 +4,7 @@ use Rattle.std.proofs.Math.Path.{sym, ap}
 use Rattle.std.proofs.Common.{◌∙◌, pow-suc}
 use Rattle.std.proofs.Math.Nat.{pow-zero, pow-le-pow_right, div-div-eq-div-mul}
 use native.Mathlib.Omega.{arith}
-use Rattle.std.specs.List.{AllByRecursion as All}
+use Rattle.std.specs.List.{AllByRecursion}
 use Rattle.std.proofs.lemmas.Int.Digits.{number_more, number_lt}
 use Rattle.std.proofs.ByRecursion.{All-get_or, All-take}
 use Rattle.std.proofs.lemmas.List.{append-nil, append_assoc, length-take-le, set_at, take_all, take_more}
@@ -47,7 +47,7 @@ few_enough f i e few =
     ap Some same ∙ sym (cond-true _ _ _ (le-leb (code_count f) most_codes (omega arith)))
 
 -- what is read so far leaves room for one more symbol
-pub room_for : (a : ℕ) (c : List ℕ) (i : ℕ) → i < length c → All (λ x. x < a) c → a ^ length c ≤ most_codes →
+pub room_for : (a : ℕ) (c : List ℕ) (i : ℕ) → i < length c → AllByRecursion (λ x. x < a) c → a ^ length c ≤ most_codes →
     {so_far radix : ℕ} → so_far ≡ number a (take i c) → radix ≡ a → so_far * radix + slice_index c i < most_codes
 room_for a c i h s few {so_far} {radix} e r =
     let x = All-get_or (λ (n : ℕ). n < a) c i 0 h s in

@@ -1,10 +1,10 @@
 -- Codes and numbers go one to one. Assumes nothing.
-use Rattle.std.specs.Prelude.{◌≡◌, ℕ, zero, suc, ◌+◌, ◌-◌, ◌*◌, ◌/◌, ◌%◌, ◌^◌, ◌<◌, List, [], ◌∷◌, length, refl}
+use Rattle.std.specs.Prelude.{◌≡◌, ℕ, zero, suc, ◌+◌, ◌*◌, ◌/◌, ◌%◌, ◌^◌, ◌<◌, List, [], ◌∷◌, length, refl}
 use Rattle.std.proofs.Common.{sym, ap, subst, ◌∙◌, arith, add_assoc, add_comm, add-mul, mul_assoc, mul-one, mod-lt, mod-eq_of_lt}
 use Rattle.std.proofs.Math.Nat.{pow-zero, pow-succ', one-le-pow, add-mul-div_right, add-mul-mod_self_right}
 use Rattle.std.proofs.Math.Arith.{digits_div, mod-mul}
 use Rattle.std.specs.Int.Digits.{number_from_digits_after}
-use Rattle.std.specs.List.{AllByRecursion as All}
+use Rattle.std.specs.List.{AllByRecursion}
 use Rattle.std.proofs.lemmas.Int.Digits.{number_lt}
 use Rattle.codebook.specs.Numbers.{number, written, Numbering}
 
@@ -42,7 +42,7 @@ unfolding written
 written_long a zero v = refl
 written_long a (suc n) v = ap suc (written_long a n v)
 
-pub written_symbols : (a n v : ℕ) → 0 < a → All (λ x. x < a) (written a n v)
+pub written_symbols : (a n v : ℕ) → 0 < a → AllByRecursion (λ x. x < a) (written a n v)
 unfolding written
 written_symbols a zero v p = tt
 written_symbols a (suc n) v p = (mod-lt (v / a ^ n) p, written_symbols a n v p)
@@ -58,10 +58,10 @@ reads_back a (suc n) v p =
     first_highest a (v / a ^ n % a) (written a n v) ∙ ap (λ m. v / a ^ n % a * m + number a (written a n v)) e
     ∙ ap (λ m. v / a ^ n % a * a ^ n + m) (reads_back a n v p) ∙ sym (mod-mul v p (one-le-pow n a p)) ∙ ap (λ m. v % m) (sym (pow-succ' a n))
 
-pub number_below : (a : ℕ) (c : List ℕ) (n : ℕ) → length c ≡ n → All (λ x. x < a) c → number a c < a ^ n
+pub number_below : (a : ℕ) (c : List ℕ) (n : ℕ) → length c ≡ n → AllByRecursion (λ x. x < a) c → number a c < a ^ n
 number_below a c n e s = subst (λ (m : ℕ). number a c < a ^ m) e (number_lt a c s)
 
-pub writes_again : (a n : ℕ) (c : List ℕ) → length c ≡ n → All (λ x. x < a) c → written a n (number a c) ≡ c
+pub writes_again : (a n : ℕ) (c : List ℕ) → length c ≡ n → AllByRecursion (λ x. x < a) c → written a n (number a c) ≡ c
 unfolding written
 writes_again a zero [] e s = refl
 writes_again a (suc n) [] e s = absurd (omega arith)

@@ -5,7 +5,7 @@
 --   few_codes   the count, where a codebook can have so many codes
 --   Numbering   codes of a length and the numbers below their count go one to one
 use Rattle.std.specs.Prelude.{◌≡◌, ℕ, zero, suc, ◌+◌, ◌*◌, ◌/◌, ◌%◌, ◌^◌, ◌<◌, cond, List, [], ◌∷◌, length, Some, None, Option, nat_le}
-use Rattle.std.specs.List.{AllByRecursion as All}
+use Rattle.std.specs.List.{AllByRecursion}
 pub use Rattle.std.specs.Int.Digits.{number_from_digits as number}
 use Rattle.alphabets.specs.Alphabets.{radix_of}
 use Rattle.formats.specs.Forms.{Form}
@@ -28,9 +28,9 @@ pub record Numbering (a n : ℕ) : Type 0 where
   -- the first symbol counts highest
   pub first : (x : ℕ) (c : List ℕ) → number a (x ∷ c) ≡ x * a ^ length c + number a c
   -- a code reads as a number below the count, and is what that number is written as
-  pub below : (c : List ℕ) → length c ≡ n → All (λ x. x < a) c → number a c < a ^ n
-  pub again : (c : List ℕ) → length c ≡ n → All (λ x. x < a) c → written a n (number a c) ≡ c
+  pub below : (c : List ℕ) → length c ≡ n → AllByRecursion (λ x. x < a) c → number a c < a ^ n
+  pub again : (c : List ℕ) → length c ≡ n → AllByRecursion (λ x. x < a) c → written a n (number a c) ≡ c
   -- each number below the count is written as a code, and is what that code reads as
   pub long : (v : ℕ) → length (written a n v) ≡ n
-  pub symbols : (v : ℕ) → 0 < a → All (λ x. x < a) (written a n v)
+  pub symbols : (v : ℕ) → 0 < a → AllByRecursion (λ x. x < a) (written a n v)
   pub back : (v : ℕ) → 0 < a → v < a ^ n → number a (written a n v) ≡ v

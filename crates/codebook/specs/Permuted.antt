@@ -3,7 +3,7 @@ use Rattle.std.specs.Prelude.{◌≡◌, ℕ, zero, suc, ◌+◌, ◌^◌, ◌<�
 use Rattle.std.proofs.Math.Path.{sym, ap, subst}
 use Rattle.std.proofs.Common.{◌∙◌, add-zero, arith}
 use Rattle.std.specs.Option.{unwrap_or}
-use Rattle.std.specs.List.{AllByRecursion as All, slice_get}
+use Rattle.std.specs.List.{AllByRecursion, slice_get}
 use Rattle.std.proofs.lemmas.Option.{slice_get-get_or}
 use Rattle.std.proofs.lemmas.Bool.{cond-true, cond-false, eq-eqb, ne_eqb, eqb-true, and_parts, and_from}
 use Rattle.alphabets.specs.declared.alphabet.Alphabet.{Alphabet}
@@ -88,7 +88,7 @@ module _ (b : Book) (go undo : ℕ → Option ℕ)
       let all = numbering (radix_of b.alphabet) b.len in
       record {
         long = all.long v ∙ same.1;
-        symbols = subst (λ (a : Alphabet). All (λ x. x < radix_of a) (written (radix_of b.alphabet) b.len v)) same.0 (all.symbols v some);
+        symbols = subst (λ (a : Alphabet). AllByRecursion (λ x. x < radix_of a) (written (radix_of b.alphabet) b.len v)) same.0 (all.symbols v some);
       }
 
   pub through_undone : (c : List ℕ) → Code f c → through b undo (through b go c) ≡ c
@@ -99,7 +99,7 @@ module _ (b : Book) (go undo : ℕ → Option ℕ)
       let same = taken_same b f taken in
       let all = numbering a n in
       let long : length c ≡ n = h.long ∙ sym same.1 in
-      let symbols : All (λ x. x < a) c = subst (λ (s : Alphabet). All (λ x. x < radix_of s) c) (sym same.0) h.symbols in
+      let symbols : AllByRecursion (λ x. x < a) c = subst (λ (s : Alphabet). AllByRecursion (λ x. x < radix_of s) c) (sym same.0) h.symbols in
       let low = all.below c long symbols in
       let v = unwrap_or (go (number a c)) 0 in
       ap (λ m. written a n (unwrap_or (undo m) 0)) (all.back v some (below (number a c) low)) ∙

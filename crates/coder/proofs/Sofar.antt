@@ -1,7 +1,7 @@
 -- A list of entries, answered from the front on. Assumes nothing.
 --   Sofar   the first i entries are answered, and the others as they were
 use Rattle.std.proofs.Common.{◌≡◌, ℕ, ◌+◌, ◌<◌, ◌≤◌, List, [], ◌∷◌, map, length, get_or, take, drop, set, replicate, None, Option, sym, refl, ap, ◌∙◌, subst, arith}
-use Rattle.std.specs.List.{AllByRecursion as All}
+use Rattle.std.specs.List.{AllByRecursion}
 use Rattle.std.proofs.ByRecursion.{All-push}
 use Rattle.std.proofs.lemmas.List.{length-map, take_all, take_more_set, drop_more, drop-set-lt, map-set, set-get_or, get_or-map, get_or_default}
 use Rattle.ciphers.specs.Meanings.{Meaning}
@@ -32,7 +32,7 @@ pub record Sofar (m : Meaning) (start lanes : List (Option Held)) (xs ys : List 
   pub follow : FollowsAll m start lanes (map asks (take i xs)) (map says (take i ys))
   pub rest : drop i ys ≡ drop i xs
   pub kept : map still ys ≡ map still xs
-  pub answered : All Answered (take i ys)
+  pub answered : AllByRecursion Answered (take i ys)
 
 pub sofar_none : (m : Meaning) (lanes : List (Option Held)) (xs : List Entry) → Sofar m lanes lanes xs xs 0
 sofar_none m lanes xs = record { follow = follows_none m lanes; rest = refl; kept = refl; answered = tt }
@@ -51,7 +51,7 @@ sofar_more {m} {start} {lanes} {after} xs ys i d y so inside one same done =
     let next = sym (drop_more ys i d within) ∙ (so.rest ∙ drop_more xs i d inside) in
     let small : i < i + 1 = omega arith in
     let x = get_or ys i d in
-    let P : List Entry → Type 0 = All Answered in
+    let P : List Entry → Type 0 = AllByRecursion Answered in
     record {
       follow =
           follows_more asks says xs i x (take i ys) (take (i + 1) (set ys i y)) y inside (head_same next ∙ get_or_default xs i d x inside) (take_more_set ys i y within) so.follow one;
@@ -72,8 +72,8 @@ module _ {m : Meaning} {start lanes : List (Option Held)} (xs ys : List Entry) (
       let P : List Entry → Type 0 = λ zs. FollowsAll m start lanes (map asks xs) (map says zs) in
       subst P (take_all i ys none_left) (follows_whole asks says xs i (take i ys) past_end so.follow)
 
-  pub all_answered : All Answered ys
-  all_answered = let P : List Entry → Type 0 = All Answered in subst P (take_all i ys none_left) so.answered
+  pub all_answered : AllByRecursion Answered ys
+  all_answered = let P : List Entry → Type 0 = AllByRecursion Answered in subst P (take_all i ys none_left) so.answered
 
 -- a list on a new coder
 pub from_new : (m n : Meaning) (start lanes : List (Option Held)) (cs : List Call) (replies : List Reply) → n ≡ m → start ≡ replicate 8 None → FollowsAll n start lanes cs replies →

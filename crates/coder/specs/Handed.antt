@@ -5,11 +5,10 @@
 --   Existing     a call whose shape, if it names one, can be made again
 --   AllExisting  the same of each call of a list
 use Rattle.std.specs.Prelude.{◌≡◌, ℕ, ◌≤◌, true, List, ◌∷◌, length, Some, Ok, Option}
-use Rattle.std.specs.List.{AllByRecursion as All}
+use Rattle.std.specs.List.{AllByRecursion}
 use Rattle.formats.specs.Forms.{remade}
 use Rattle.alphabets.specs.RunNames.{legal}
 use Rattle.ciphers.specs.Meanings.{Meaning}
-use Rattle.ciphers.specs.Swaps.{Outcome}
 use Rattle.coder.specs.Calls.{Call, starts, ends, masks, unmasks, restarts, Reply, said}
 use Rattle.coder.specs.Machine.{Held, held, reply}
 use Rattle.coder.specs.Steps.{lane_at}
@@ -38,4 +37,4 @@ Existing (unmasks k t) = Unit {0}
 Existing restarts = Unit {0}
 
 abbrev pub AllExisting : List Call → Type 0
-AllExisting = All Existing
+AllExisting = AllByRecursion Existing

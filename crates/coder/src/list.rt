@@ -1,6 +1,6 @@
 // Whole lists of calls on a new coder, made in order and answered where they stand.
 ghost use Rattle.std.specs.Prelude.{◌≡◌, [], map};
-ghost use Rattle.std.specs.List.{AllByRecursion as All};
+ghost use Rattle.std.specs.List.{AllByRecursion};
 ghost use Rattle.coder.specs.Calls.{text_of};
 ghost use Rattle.coder.specs.Entries.{call_of, asks, says, bare, still, Answered};
 ghost use Rattle.coder.specs.Handed.{Follows, Through};
@@ -34,7 +34,7 @@ pub struct Entry {
 // swapped or left; nothing else of the list changes.
 pub fn make_calls<T: FormatCipher>(cipher: T, list: &mut [Entry]) -> Coder<T>
     ensures law { OneList (T.FormatCipher.meaning cipher) (map asks list.old) (map says list.new) }
-    ensures answered { All Answered list.new }
+    ensures answered { AllByRecursion Answered list.new }
     ensures kept { map still list.new ≡ map still list.old }
     ensures through { Through (T.FormatCipher.meaning cipher) (views result.lanes.records) (past (map asks list.old) []) }
     ensures same { T.FormatCipher.meaning result.cipher ≡ T.FormatCipher.meaning cipher }
@@ -54,7 +54,7 @@ pub fn make_two_lists<S: FormatCipher, T: FormatCipher>(
     others: &mut [Entry],
 ) -> (Coder<S>, Coder<T>)
     ensures law { TwoLists (S.FormatCipher.meaning cipher) (T.FormatCipher.meaning other) (map asks list.old) (map asks others.old) (map says list.new) (map says others.new) }
-    ensures answered { (All Answered list.new) × (All Answered others.new) }
+    ensures answered { (AllByRecursion Answered list.new) × (AllByRecursion Answered others.new) }
     ensures kept { (map still list.new ≡ map still list.old) × (map still others.new ≡ map still others.old) }
     ensures through { (Through (S.FormatCipher.meaning cipher) (views result.0.lanes.records) (past (map asks list.old) [])) × (Through (T.FormatCipher.meaning other) (views result.1.lanes.records) (past (map asks others.old) [])) }
     ensures same { (S.FormatCipher.meaning result.0.cipher ≡ S.FormatCipher.meaning cipher) × (T.FormatCipher.meaning result.1.cipher ≡ T.FormatCipher.meaning other) }

@@ -1,7 +1,7 @@
 -- Bits: the bits of bytes by their places, and the number that bits form. Assumes nothing.
 use Rattle.std.proofs.Common.{◌≡◌, ℕ, zero, suc, ◌+◌, ◌-◌, ◌*◌, ◌/◌, ◌%◌, ◌^◌, ◌<◌, ◌≤◌, List, [], ◌∷◌, ◌++◌, length, get_or, take, drop, sym, refl, ap, ◌∙◌, ⊎_elim, mul_assoc, mul_comm, add-one, arith, lit<, pow_mono, pow-add}
 use lib.Arith.{digits_lt}
-use Rattle.std.specs.List.{AllByRecursion as All}
+use Rattle.std.specs.List.{AllByRecursion}
 use Rattle.std.proofs.lemmas.List.{get_or_append_left, get_or-append_right, get_or-drop, length-drop, length-take, length_push, take_more}
 use Rattle.std.proofs.ByRecursion.{All-get_or, All-take, All-drop}
 use Rattle.std.proofs.lemmas.Bool.{cases_lt}
@@ -42,7 +42,7 @@ pub bits_at : (bs : List ℕ) (p : ℕ) → p < 8 * length bs → get_or (bits_o
 bits_at [] p h = absurd (omega arith)
 bits_at (b ∷ bs) p h = ⊎_elim (first_byte b bs p) (λ k. later_byte b bs p k (bits_at bs (p - 8) (omega arith))) (cases_lt p 8)
 
-pub bits_below : (bs : List ℕ) → All (λ b. b < 2) (bits_of bs)
+pub bits_below : (bs : List ℕ) → AllByRecursion (λ b. b < 2) (bits_of bs)
 bits_below [] = tt
 bits_below (b ∷ bs) =
     (omega arith, (omega arith, (omega arith, (omega arith, (omega arith, (omega arith, (omega arith, (omega arith, bits_below bs))))))))
@@ -53,7 +53,7 @@ number_push [] b = omega arith
 number_push (x ∷ xs) b =
     rw (length_push xs b, number_push xs b, pow-add 2 (length xs) 1) (omega (arith, mul_assoc x (2 ^ length xs) 2))
 
-pub number_below : (xs : List ℕ) → All (λ b. b < 2) xs → number xs < 2 ^ length xs
+pub number_below : (xs : List ℕ) → AllByRecursion (λ b. b < 2) xs → number xs < 2 ^ length xs
 number_below [] h = lit< tt
 number_below (x ∷ xs) h =
     let n = number_below xs h.1 in

@@ -1,6 +1,6 @@
 -- Boxes: swaps keep a permutation, and a permutation has an inverse. Assumes nothing.
 use Rattle.std.proofs.Common.{◌≡◌, ℕ, zero, suc, ◌+◌, ◌-◌, ◌<◌, ◌≤◌, cond, eqb, ◌≢◌, List, length, get_or, take, drop, set, IfOk, Ok, Err, Result, sym, refl, ap, ◌∙◌, subst, ⊎_elim, zero-add, arith, below_more}
-use Rattle.std.specs.List.{range_with_len, AllByRecursion as All}
+use Rattle.std.specs.List.{range_with_len, AllByRecursion}
 use Rattle.std.proofs.lemmas.List.FromFn.{length-range_with_len, get_or-range_with_len}
 use Rattle.std.proofs.lemmas.List.{get_or-take, length-take-le, length-set, get_or-set_same, get_or-set_other}
 use Rattle.std.proofs.lemmas.Result.{IfOk-at_ok}
@@ -103,7 +103,7 @@ follow_made : {A B : Type 0} (r : Result A Fault) (n : ℕ) (next : A → Outcom
 follow_made (Ok x) n next P h = h x refl
 follow_made (Err f) n next P h = tt
 
-pub swaps_permute : (a i : ℕ) (table coins : List ℕ) → All (λ b. b < 2) coins → i < a → a ≤ 4096 → Permutation a table →
+pub swaps_permute : (a i : ℕ) (table coins : List ℕ) → AllByRecursion (λ b. b < 2) coins → i < a → a ≤ 4096 → Permutation a table →
     IfOk (swaps i table coins).answer (Permutation a)
 unfolding swaps
 swaps_permute a zero table coins b h m p = p

@@ -2,7 +2,7 @@
 use Rattle.std.proofs.Common.{◌≡◌, ℕ, zero, suc, ◌+◌, ◌-◌, ◌*◌, ◌/◌, ◌%◌, ◌^◌, ◌<◌, ◌≤◌, true, false, ◌&&◌, leb, List, length, take, drop, Some, None, Ok, Err, Option, Result, sym, refl, ap, ◌∙◌, subst, ⊎_elim, zero-le, mul-le-mul_right, suc-mul, mul_comm, zero-mul, div-mul-le_self, arith, pow_pos, pow_mono}
 use native.Mathlib.Nat.{sub-zero}
 use lib.Arith.{digits_lt}
-use Rattle.std.specs.List.{AllByRecursion as All}
+use Rattle.std.specs.List.{AllByRecursion}
 use Rattle.std.proofs.lemmas.Nat.{div_below, le-div}
 use Rattle.std.proofs.ByRecursion.{All-take, All-drop}
 use Rattle.std.proofs.lemmas.List.{drop-drop, length-drop, length-take, length-take-le}
@@ -179,7 +179,7 @@ module _ {k : ℕ} {coins : List ℕ} {count : ℕ} {rest : List ℕ} {taken : �
     pub turn_rest : after (taking count rest) rest ≡ drop (width k) rest
     turn_rest = (taken_good count rest least most v good).2 ∙ ap (λ c. drop c rest) t.right
 
-    pub turn_below : All (λ b. b < 2) rest → v < 2 ^ count
+    pub turn_below : AllByRecursion (λ b. b < 2) rest → v < 2 ^ count
     turn_below b =
         let g = taken_good count rest least most v good in
         let l = length-take-le count rest g.0 in
@@ -211,7 +211,7 @@ module _ {k : ℕ} {coins : List ℕ} {count : ℕ} {rest : List ℕ} {taken : �
     pub turn_bits : Bits rest → Bits coins
     turn_bits b = all_bits k coins t.n rest taken t.passed b
 
-    pub turn_share : All (λ b. b < 2) rest → (x : ℕ) → Some x ≡ given_by k v → x < k
+    pub turn_share : AllByRecursion (λ b. b < 2) rest → (x : ℕ) → Some x ≡ given_by k v → x < k
     turn_share b x r =
         let h = turn_below b in
         let l = t.low in
@@ -240,20 +240,20 @@ module _ {k : ℕ} {coins : List ℕ} {count : ℕ} {rest : List ℕ} {taken : �
         (taken_short count rest least most f bad).2 ∙ t.passed.waits ∙ ap (λ m. drop m coins) (sym t.passed.gone) ∙ sym (leaves coins turn_short)
 
 -- what a draw gives is below its bound, and it takes no more coins than there are
-try_below : (k : ℕ) (coins : List ℕ) (n : ℕ) → All (λ b. b < 2) coins → try_at k coins n < 2 ^ width k
+try_below : (k : ℕ) (coins : List ℕ) (n : ℕ) → AllByRecursion (λ b. b < 2) coins → try_at k coins n < 2 ^ width k
 try_below k coins n b =
     let rest = drop (n * width k) coins in
     let h = number_below (take (width k) rest) (All-take (λ b. b < 2) (width k) rest (All-drop (λ b. b < 2) (n * width k) coins b)) in
     let l : length (take (width k) rest) ≤ width k = simp length-take (omega arith) in
     omega (arith, pow_mono l)
 
-drawn_at_below : (k : ℕ) (coins : List ℕ) (o : Option ℕ) (j : ℕ) → All (λ b. b < 2) coins → 0 < k → (drawn_at k coins o).answer ≡ Ok j → j < k
+drawn_at_below : (k : ℕ) (coins : List ℕ) (o : Option ℕ) (j : ℕ) → AllByRecursion (λ b. b < 2) coins → 0 < k → (drawn_at k coins o).answer ≡ Ok j → j < k
 drawn_at_below k coins (Some n) j b h e =
     let s : share k (try_at k coins n) ≡ j = cc in
     omega (arith, share_below k (try_at k coins n) h (try_below k coins n b))
 drawn_at_below k coins None j b h e = let z : ◌≡◌ {A = ℕ} 0 1 = cc in absurd (omega arith)
 
-pub drawn_below : (k : ℕ) (coins : List ℕ) (j : ℕ) → All (λ b. b < 2) coins → 2 ≤ k → k ≤ 4096 → (drawing k coins).answer ≡ Ok j → j < k
+pub drawn_below : (k : ℕ) (coins : List ℕ) (j : ℕ) → AllByRecursion (λ b. b < 2) coins → 2 ≤ k → k ≤ 4096 → (drawing k coins).answer ≡ Ok j → j < k
 drawn_below k coins j b l h e =
     drawn_at_below k coins (first_from k coins 0 (tries k coins)) j b (omega arith) (sym (ap (λ o. o.answer) (draw_within k coins l h)) ∙ e)
 

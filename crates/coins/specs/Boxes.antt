@@ -9,7 +9,7 @@
 --   MadeIn       a call makes a box in a table
 --   Shuffles     whatever the coins, what is made is a permutation
 use Rattle.std.specs.Prelude.{◌≡◌, ℕ, zero, suc, ◌+◌, ◌-◌, ◌<◌, Bool, true, cond, not, ◌&&◌, List, [], ◌∷◌, length, IfOk, Ok, Err, Result, ◌==◌, nat_le, nat_lt, slice_index, slice_set}
-use Rattle.std.specs.List.{range_with_len, AllByRecursion as All}
+use Rattle.std.specs.List.{range_with_len, AllByRecursion}
 use Rattle.faults.specs.declared.fault.Cause.TheVariants.{Range}
 use Rattle.faults.specs.declared.fault.Fault.{Fault}
 use Rattle.faults.specs.Faults.{own, deeper}
@@ -72,4 +72,4 @@ MadeIn table o (Ok taken) = o ≡ record { answer = Ok table; gone = taken }
 MadeIn table o (Err f) = o.answer ≡ Err f
 
 abbrev pub Shuffles : Type 0
-Shuffles = (a : ℕ) (coins : List ℕ) → All (λ b. b < 2) coins → IfOk (making a coins).answer (Permutation a)
+Shuffles = (a : ℕ) (coins : List ℕ) → AllByRecursion (λ b. b < 2) coins → IfOk (making a coins).answer (Permutation a)

@@ -8,13 +8,13 @@
 --   counted    the call's answer, with how many coins it took where it is good
 --   taking     what it is to take a count of coins
 use Rattle.std.specs.Prelude.{ℕ, ◌+◌, ◌*◌, ◌/◌, ◌%◌, ◌^◌, ◌<◌, cond, ◌&&◌, List, [], ◌∷◌, ◌++◌, length, take, drop, Ok, Err, Result, nat_le}
-use Rattle.std.specs.List.{AllByRecursion as All}
+use Rattle.std.specs.List.{AllByRecursion}
 use Rattle.faults.specs.declared.fault.Cause.TheVariants.{Range, CoinsShort}
 use Rattle.faults.specs.declared.fault.Fault.{Fault}
 use Rattle.faults.specs.Faults.{own}
 
 pub record Bits (coins : List ℕ) : Type 0 where
-  pub each : All (λ b. b < 2) coins
+  pub each : AllByRecursion (λ b. b < 2) coins
   pub countable : length coins < 2 ^ 128
 
 abbrev pub number : List ℕ → ℕ

@@ -1,6 +1,6 @@
 -- Texts and codes go one to one, and the checks tell them. Assumes nothing.
 use Rattle.std.proofs.Common.{◌≡◌, ℕ, zero, suc, ◌+◌, ◌<◌, Bool, true, false, eqb, List, [], ◌∷◌, map, length, get_or, is_some, Some, None, Ok, Err, Option, unwrap_or, sym, refl, ap, ◌∙◌, inl, inr, add-suc, suc-add, zero-add, arith}
-use Rattle.std.specs.List.{AllByRecursion as All}
+use Rattle.std.specs.List.{AllByRecursion}
 use Rattle.std.proofs.ByRecursion.{All-get_or, All-map, All-weaker}
 use Rattle.std.proofs.lemmas.List.{length-map}
 use Rattle.std.proofs.lemmas.Bool.{cases_Bool, cond-true, cond-false, eq-eqb, eqb-true, lt-ltb, ltb-true, false≢true}
@@ -15,7 +15,7 @@ use Rattle.alphabets.proofs.Symbols.{one_to_one}
 use Rattle.faults.proofs.Variants.{none≢some, some≢none, err≢ok, same_some}
 
 abbrev Passes : (ℕ → Bool) → List ℕ → Type 0
-Passes p xs = All (λ x. p x ≡ true) xs
+Passes p xs = AllByRecursion (λ x. p x ≡ true) xs
 
 -- nothing is stray where the test passes at each entry
 pub none_stray : (p : ℕ → Bool) (i : ℕ) (xs : List ℕ) → Passes p xs → first_not p i xs ≡ None

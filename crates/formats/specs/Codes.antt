@@ -15,7 +15,7 @@
 --   as_bytes      what a code turns into: the bytes that write its symbols
 use Rattle.std.specs.Prelude.{◌≡◌, ℕ, suc, ◌<◌, Bool, true, cond, List, [], ◌∷◌, map, length, is_some, Some, None, Ok, Err, Option, Result, ◌==◌, nat_lt}
 use Rattle.std.specs.Option.{unwrap_or}
-use Rattle.std.specs.List.{AllByRecursion as All}
+use Rattle.std.specs.List.{AllByRecursion}
 use Rattle.alphabets.specs.declared.alphabet.Alphabet.{Alphabet}
 use Rattle.faults.specs.declared.fault.Cause.TheVariants.{CodeLength, NotASymbol}
 use Rattle.faults.specs.declared.fault.Fault.{Fault}
@@ -25,11 +25,11 @@ use Rattle.formats.specs.Forms.{Form}
 
 pub record Code (f : Form) (code : List ℕ) : Type 0 where
   pub long : length code ≡ f.len
-  pub symbols : All (λ x. x < radix_of f.alphabet) code
+  pub symbols : AllByRecursion (λ x. x < radix_of f.alphabet) code
 
 pub record Text (f : Form) (text : List ℕ) : Type 0 where
   pub long : length text ≡ f.len
-  pub bytes : All (λ b. is_some (symbol_of f.alphabet b) ≡ true) text
+  pub bytes : AllByRecursion (λ b. is_some (symbol_of f.alphabet b) ≡ true) text
 
 -- counted from i
 abbrev pub first_not : (ℕ → Bool) → ℕ → List ℕ → Option ℕ

@@ -3,14 +3,14 @@
 --   Made      the calls of a list were made on a new coder, and the law holds of them
 --   BothMade  the same of two lists, within each and between them
 use Rattle.std.specs.Prelude.{◌≡◌, List, map}
-use Rattle.std.specs.List.{AllByRecursion as All}
+use Rattle.std.specs.List.{AllByRecursion}
 use Rattle.ciphers.specs.Meanings.{Meaning}
 use Rattle.coder.specs.declared.list.Entry.{Entry}
 use Rattle.coder.specs.Entries.{asks, says, still, Answered}
 use Rattle.coder.specs.Law.{OneList, TwoLists}
 
 pub record Kept (before after : List Entry) : Type 0 where
-  pub answered : All Answered after
+  pub answered : AllByRecursion Answered after
   pub same : map still after ≡ map still before
 
 pub record Made (m : Meaning) (before after : List Entry) : Type 0 where

@@ -1,7 +1,7 @@
 -- The first of two ciphers: its laws, and a call of it. Assumes nothing.
 use Rattle.std.specs.Prelude.{◌≡◌, ℕ, Bool, true, false, cond, ◌||◌, List, Ok, Err, Result}
 use Rattle.std.proofs.Common.{sym, ap, ◌∙◌, subst, inl, inr}
-use Rattle.std.proofs.lemmas.Bool.{true≢false, cases_Bool, cond-true, cond-false, or_left}
+use Rattle.std.proofs.lemmas.Bool.{cases_Bool, cond-true, cond-false, or_left}
 use Rattle.faults.specs.declared.fault.Fault.{Fault}
 use Rattle.formats.specs.Forms.{Form}
 use Rattle.ciphers.specs.Meanings.{Meaning, Free, Undone, Laws}

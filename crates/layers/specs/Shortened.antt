@@ -1,5 +1,5 @@
 -- The form of the rest: its parts, and that it exists. Assumes nothing.
-use Rattle.std.specs.Prelude.{◌≡◌, ℕ, ◌-◌, ◌*◌, ◌<◌, ◌≤◌, max, true, false, cond, List, length, drop, Ok, Err, Option, Result, MatchOption, ◌==◌, ◌≢◌, refl}
+use Rattle.std.specs.Prelude.{◌≡◌, ℕ, ◌-◌, ◌*◌, ◌<◌, ◌≤◌, max, List, drop, Ok, Err, Option, Result, MatchOption, ◌==◌, ◌≢◌, refl}
 use Rattle.std.proofs.Common.{sym, subst, ◌∙◌, inl, inr, zero-mul, mul-le-mul_left, mul-le-mul_right, arith}
 use Rattle.std.proofs.Math.Path.{ap}
 use Rattle.std.proofs.Math.Nat.{le-max_left, le-max_right, max-eq_left, max-eq_right}

@@ -1,7 +1,7 @@
 -- One line more of a block. Assumes nothing.
 --   Sofar   the first i lines are answered
-use Rattle.std.proofs.Common.{◌≡◌, ℕ, ◌+◌, ◌-◌, ◌<◌, ◌≤◌, List, [], ◌∷◌, ◌++◌, length, take, drop, set, Some, Option, sym, refl, ap, ◌∙◌, subst, arith, lit≤, take-add}
-use Rattle.std.specs.List.{AllByRecursion as All}
+use Rattle.std.proofs.Common.{◌≡◌, ℕ, ◌+◌, ◌<◌, ◌≤◌, List, [], ◌∷◌, ◌++◌, length, take, drop, set, Some, Option, sym, refl, ap, ◌∙◌, subst, arith, lit≤, take-add}
+use Rattle.std.specs.List.{AllByRecursion}
 use Rattle.std.proofs.ByRecursion.{All-push}
 use Rattle.std.proofs.lemmas.List.{append_assoc, length-append, length_push, length-take, take_more_set, drop-set-lt, drop-drop, length-drop}
 use Rattle.ciphers.specs.Meanings.{Meaning}
@@ -49,7 +49,7 @@ pub record Sofar (m : Meaning) (before after : List (Option Held)) (block : List
   pub lines : List (List ℕ)
   pub split : take used block ≡ ended lines
   pub inside : used ≤ length block
-  pub feedless : All Feedless lines
+  pub feedless : AllByRecursion Feedless lines
   pub counted : length lines ≡ i
   pub kept : drop i filled ≡ drop i slots
   pub printed : EachHolds (take i filled) (lines_by m before lines)

@@ -9,7 +9,7 @@
 --   EachHolds      slots that each hold a text
 --   AnsweredBlock  a block is answered
 use Rattle.std.specs.Prelude.{◌≡◌, ℕ, ◌<◌, ◌≤◌, Bool, not, List, [], ◌∷◌, ◌++◌, length, take, drop, Option, ◌==◌, ◌≢◌}
-use Rattle.std.specs.List.{AllByRecursion as All}
+use Rattle.std.specs.List.{AllByRecursion}
 use Rattle.formats.specs.Codes.{first_not}
 use Rattle.ciphers.specs.Meanings.{Meaning}
 use Rattle.coder.specs.Calls.{Call}
@@ -29,7 +29,7 @@ abbrev pub feed_in : List ℕ → Option ℕ
 feed_in text = first_not not_feed 0 text
 
 abbrev pub Feedless : List ℕ → Type 0
-Feedless = All (λ b. b ≢ line_feed)
+Feedless = AllByRecursion (λ b. b ≢ line_feed)
 
 abbrev pub ended : List (List ℕ) → List ℕ
 ended [] = []
@@ -63,7 +63,7 @@ pub record AnsweredBlock (m : Meaning) (before after : List (Option Held)) (bloc
   -- the lines, with their line feeds, are the front of the block
   pub split : take used block ≡ ended lines
   pub inside : used ≤ length block
-  pub feedless : All Feedless lines
+  pub feedless : AllByRecursion Feedless lines
   pub counted : length lines ≡ count
   -- a line is left only for want of a slot
   pub left : count < length slots → Feedless (drop used block)

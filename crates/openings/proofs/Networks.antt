@@ -1,5 +1,5 @@
 -- The network over the key's own pool. Assumes nothing.
-use Rattle.std.proofs.Common.{◌≡◌, ℕ, List, Ok, Err, sym, ap, ◌∙◌}
+use Rattle.std.proofs.Common.{◌≡◌, ℕ, List, Ok, Err, ap, ◌∙◌}
 use Rattle.alphabets.specs.declared.alphabet.Alphabet.{Alphabet}
 use Rattle.alphabets.specs.Alphabets.{radix_of}
 use Rattle.faults.specs.declared.fault.Fault.{Fault}
@@ -9,7 +9,7 @@ use Rattle.pools.specs.declared.pool.Origin.{Origin}
 use Rattle.pools.specs.declared.pool.Origin.TheVariants.{Key}
 use Rattle.pools.specs.Shuffled.{pooling}
 use Rattle.ciphers.specs.Networks.{Network, sequence_of}
-use Rattle.openings.specs.OpenedNetworks.{Opened, opened, with_boxes, opened_network}
+use Rattle.openings.specs.OpenedNetworks.{opened, with_boxes, opened_network}
 
 -- the pool's key and radix are those that the line names
 module _ (a : Alphabet) (key made : List ℕ) (radix : ℕ) (same : made ≡ key) (of : radix ≡ radix_of a) where

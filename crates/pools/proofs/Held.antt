@@ -1,6 +1,6 @@
 -- Held: what every pool holds, for those who use one. Assumes nothing.
-use Rattle.std.proofs.Common.{◌≡◌, ℕ, zero, suc, ◌+◌, ◌-◌, ◌*◌, ◌<◌, ◌≤◌, List, [], ◌∷◌, ◌++◌, length, get_or, take, sym, ap, ◌∙◌, subst, suc-mul, zero-mul, arith}
-use Rattle.std.specs.List.{AllByRecursion as All}
+use Rattle.std.proofs.Common.{◌≡◌, ℕ, zero, suc, ◌+◌, ◌*◌, ◌<◌, ◌≤◌, List, [], ◌∷◌, ◌++◌, length, get_or, take, sym, ap, ◌∙◌, subst, suc-mul, zero-mul, arith}
+use Rattle.std.specs.List.{AllByRecursion}
 use Rattle.std.proofs.lemmas.Nat.{mul-le}
 use Rattle.std.proofs.ByRecursion.{All-get_or}
 use Rattle.std.proofs.lemmas.List.{length-append, get_or_append_left, get_or-append-add, get_or-take, take_all}
@@ -12,7 +12,7 @@ use Rattle.pools.specs.Rows.{rows_of, flat}
 use Rattle.pools.proofs.Rows.{length_rows, rows_long}
 
 -- what stands in a table of rows
-flat_at : (a : ℕ) (rs : List (List ℕ)) (n t : ℕ) → All (λ r. length r ≡ a) rs → n < length rs → t < a + a →
+flat_at : (a : ℕ) (rs : List (List ℕ)) (n t : ℕ) → AllByRecursion (λ r. length r ≡ a) rs → n < length rs → t < a + a →
     get_or (flat rs) (n * (a + a) + t) 0 ≡ get_or (get_or rs n [] ++ get_or rs n []) t 0
 flat_at a [] n t all h k = absurd (omega arith)
 flat_at a (r ∷ rs) zero t all h k =
@@ -27,7 +27,7 @@ flat_at a (r ∷ rs) (suc n) t all h k =
 
 module _ (a : ℕ) (table : List ℕ) (whole : length table ≡ 32768) (most : a ≤ 64)
     (doubled : take (256 * (a + a)) table ≡ flat (rows_of a 256 table)) where
-  long : All (λ r. length r ≡ a) (rows_of a 256 table)
+  long : AllByRecursion (λ r. length r ≡ a) (rows_of a 256 table)
   long = rows_long a 256 table (omega arith)
 
   row_at : (n t : ℕ) → n < 256 → t < a + a → get_or table (n * (a + a) + t) 0 ≡ get_or (get_or (rows_of a 256 table) n [] ++ get_or (rows_of a 256 table) n []) t 0

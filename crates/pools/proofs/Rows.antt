@@ -1,6 +1,6 @@
 -- Rows: what a table holds after a row is written, and where each entry stands. Assumes nothing.
 use Rattle.std.proofs.Common.{◌≡◌, ℕ, zero, suc, ◌+◌, ◌-◌, ◌*◌, ◌<◌, ◌≤◌, List, [], ◌∷◌, ◌++◌, length, get_or, take, drop, set, sym, refl, ap, ◌∙◌, subst, ⊎_elim, suc-mul, zero-mul, arith, below_more}
-use Rattle.std.specs.List.{AllByRecursion as All}
+use Rattle.std.specs.List.{AllByRecursion}
 use Rattle.std.proofs.lemmas.Nat.{mul-le}
 use Rattle.std.proofs.ByRecursion.{All-push, All-from_get_or}
 use Rattle.std.proofs.lemmas.List.{append_assoc, append-nil, length-append, length-drop, length-take-le, length_push, take_at, drop_at, get_or_append_left, get_or-append_right, get_or_push, get_or-set_same, get_or-set_other, length-set, ext_get_or, drop-drop}
@@ -13,14 +13,14 @@ unfolding rows_of
 length_rows a zero table = refl
 length_rows a (suc m) table = ap suc (length_rows a m (drop (a + a) table))
 
-pub rows_long : (a m : ℕ) (table : List ℕ) → m * (a + a) ≤ length table → All (λ r. length r ≡ a) (rows_of a m table)
+pub rows_long : (a m : ℕ) (table : List ℕ) → m * (a + a) ≤ length table → AllByRecursion (λ r. length r ≡ a) (rows_of a m table)
 unfolding rows_of
 rows_long a zero table h = tt
 rows_long a (suc m) table h =
     let e = suc-mul m (a + a) in
     (length-take-le a table (omega arith), rows_long a m (drop (a + a) table) (simp length-drop (omega arith)))
 
-pub length_flat : (a : ℕ) (rs : List (List ℕ)) → All (λ r. length r ≡ a) rs → length (flat rs) ≡ length rs * (a + a)
+pub length_flat : (a : ℕ) (rs : List (List ℕ)) → AllByRecursion (λ r. length r ≡ a) rs → length (flat rs) ≡ length rs * (a + a)
 length_flat a [] h = sym (zero-mul (a + a))
 length_flat a (r ∷ rs) h =
     let e = length_flat a rs h.1 in
@@ -29,7 +29,7 @@ length_flat a (r ∷ rs) h =
     simp length-append (omega arith)
 
 -- a table of rows has those rows
-pub rows_flat : (a : ℕ) (rs : List (List ℕ)) (rest : List ℕ) → All (λ r. length r ≡ a) rs → rows_of a (length rs) (flat rs ++ rest) ≡ rs
+pub rows_flat : (a : ℕ) (rs : List (List ℕ)) (rest : List ℕ) → AllByRecursion (λ r. length r ≡ a) rs → rows_of a (length rs) (flat rs ++ rest) ≡ rs
 unfolding rows_of
 rows_flat a [] rest h = refl
 rows_flat a (r ∷ rs) rest h =
@@ -48,7 +48,7 @@ flat_push (s ∷ rs) r = ap (λ l. (s ++ s) ++ l) (flat_push rs r) ∙ sym (appe
 -- one row more
 module _ (a m : ℕ) (table row : List ℕ) (long : length row ≡ a) (room : m * (a + a) + (a + a) ≤ length table)
     (doubled : take (m * (a + a)) table ≡ flat (rows_of a m table)) where
-  all_long : All (λ r. length r ≡ a) (rows_of a m table ++ row ∷ [])
+  all_long : AllByRecursion (λ r. length r ≡ a) (rows_of a m table ++ row ∷ [])
   all_long = All-push (λ r. length r ≡ a) (rows_of a m table) row (rows_long a m table (omega arith)) long
 
   shape : written a m table row ≡ flat (rows_of a m table ++ row ∷ []) ++ drop (m * (a + a) + (a + a)) table
@@ -193,5 +193,5 @@ rows_room a n h k =
     omega arith
 
 -- the entries of a box of at most 64 are bytes
-pub entries_bytes : (a : ℕ) (row : List ℕ) → length row ≡ a → a ≤ 64 → ((x : ℕ) → x < a → get_or row x 0 < a) → All (λ x. x < 256) row
+pub entries_bytes : (a : ℕ) (row : List ℕ) → length row ≡ a → a ≤ 64 → ((x : ℕ) → x < a → get_or row x 0 < a) → AllByRecursion (λ x. x < 256) row
 entries_bytes a row long most inside = All-from_get_or (λ x. x < 256) row 0 (λ i h. let l = inside i (omega arith) in omega arith)

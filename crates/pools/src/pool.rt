@@ -1,7 +1,7 @@
 // A pool: 256 boxes of one radix, and their inverses.
 ghost use Rattle.std.specs.Prelude.{◌≡◌, ◌+◌, ◌*◌, ◌<◌, ◌≤◌, ◌++◌, length, take};
-ghost use Rattle.std.specs.List.{AllByRecursion as All};
-ghost use Rattle.coins.specs.Sboxes.{entries as entriesOf, inverses as inversesOf};
+ghost use Rattle.std.specs.List.{AllByRecursion};
+ghost use Rattle.coins.specs.Sboxes.{entries as entries_of, inverses as inversesOf};
 ghost use Rattle.pools.specs.Rows.{rows_of, flat, written, Inside, Undone};
 
 use coins::sbox::Sbox;
@@ -44,7 +44,7 @@ fn write_box(n: usize, sbox: &Sbox, forward: &mut [u8], inverse: &mut [u8])
     requires row { n < 256 }
     requires most { sbox.now.radix ≤ 64 }
     requires whole { (length forward.old ≡ 32768) × (length inverse.old ≡ 32768) }
-    ensures forward { forward.new ≡ written sbox.now.radix n forward.old (entriesOf sbox.now) }
+    ensures forward { forward.new ≡ written sbox.now.radix n forward.old (entries_of sbox.now) }
     ensures inverse { inverse.new ≡ written sbox.now.radix n inverse.old (inversesOf sbox.now) }
 {
     write_row(n, sbox.images(), forward);
@@ -55,7 +55,7 @@ fn write_box(n: usize, sbox: &Sbox, forward: &mut [u8], inverse: &mut [u8])
 fn write_row(n: usize, entries: &[u16], table: &mut [u8])
     requires row { n < 256 }
     requires most { length entries.now ≤ 64 }
-    requires bytes { All (λ x. x < 256) entries.now }
+    requires bytes { AllByRecursion (λ x. x < 256) entries.now }
     requires whole { length table.old ≡ 32768 }
     ensures { table.new ≡ written (length entries.now) n table.old entries.now }
 {
@@ -65,7 +65,7 @@ fn write_row(n: usize, entries: &[u16], table: &mut [u8])
 
 // Writes entries into a row, and once more after them.
 fn write_twice(entries: &[u16], row: &mut [u8])
-    requires bytes { All (λ x. x < 256) entries.now }
+    requires bytes { AllByRecursion (λ x. x < 256) entries.now }
     requires whole { length row.old ≡ length entries.now + length entries.now }
     ensures { row.new ≡ entries.now ++ entries.now }
 {

@@ -3,7 +3,7 @@ use Rattle.std.specs.Prelude.{◌≡◌, ℕ, zero, suc, ◌+◌, ◌*◌, ◌^�
 use Rattle.std.proofs.Common.{sym, ap, subst, ◌∙◌, inl, inr, suc-mul, zero-mul, pow-suc, mul_comm, arith, length-append}
 use Rattle.std.proofs.Math.Nat.{pow-zero}
 use Rattle.std.proofs.lemmas.List.{length-map}
-use Rattle.std.specs.List.{AllByRecursion as All}
+use Rattle.std.specs.List.{AllByRecursion}
 use Rattle.std.proofs.lemmas.Bool.{both_ways, cases_eq, cond_both}
 use Rattle.alphabets.specs.Alphabets.{radix_of}
 use Rattle.formats.specs.Forms.{Form}
@@ -130,21 +130,21 @@ length_fronted (suc a) rest =
     length-append (fronted a rest) (front a rest) ∙ ap (λ n. n + length (front a rest)) (length_fronted a rest) ∙
     ap (λ n. a * length rest + n) (length-map rest (λ c. a ∷ c)) ∙ sym (suc-mul a (length rest))
 
-in_strings : (a n : ℕ) (c : List ℕ) → length c ≡ n → All (λ x. x < a) c → In c (strings a n)
+in_strings : (a n : ℕ) (c : List ℕ) → length c ≡ n → AllByRecursion (λ x. x < a) c → In c (strings a n)
 unfolding strings
 in_strings a zero [] e all = inl refl
 in_strings a zero (x ∷ c) e all = absurd (omega arith)
 in_strings a (suc n) [] e all = absurd (omega arith)
 in_strings a (suc n) (x ∷ c) e all = in_fronted a x c (strings a n) all.0 (in_strings a n c (omega arith) all.1)
 
-strings_in : (a n : ℕ) (c : List ℕ) → In c (strings a n) → (length c ≡ n) × All (λ x. x < a) c
+strings_in : (a n : ℕ) (c : List ℕ) → In c (strings a n) → (length c ≡ n) × AllByRecursion (λ x. x < a) c
 unfolding strings
-strings_in a zero c (inl e) = (ap length e, subst (λ (z : List ℕ). All (λ x. x < a) z) (sym e) tt)
+strings_in a zero c (inl e) = (ap length e, subst (λ (z : List ℕ). AllByRecursion (λ x. x < a) z) (sym e) tt)
 strings_in a zero c (inr m) = absurd m
 strings_in a (suc n) c m =
     let w = fronted_in a c (strings a n) m in
     let rest = strings_in a n w.1 w.4 in
-    (ap length w.2 ∙ ap suc rest.0, subst (λ (z : List ℕ). All (λ x. x < a) z) (sym w.2) (w.3, rest.1))
+    (ap length w.2 ∙ ap suc rest.0, subst (λ (z : List ℕ). AllByRecursion (λ x. x < a) z) (sym w.2) (w.3, rest.1))
 
 once_strings : (a n : ℕ) → Once (strings a n)
 unfolding strings

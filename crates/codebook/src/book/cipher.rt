@@ -1,7 +1,7 @@
 // The codebook as a cipher over formats.
 ghost use Rattle.std.specs.Prelude.{◌≡◌, ◌^◌, ◌<◌, ◌≤◌, length};
 ghost use Rattle.std.specs.Option.{unwrap_or};
-ghost use Rattle.std.specs.List.{AllByRecursion as All, slice_get};
+ghost use Rattle.std.specs.List.{AllByRecursion, slice_get};
 ghost use Rattle.formats.specs.Shapes.{form};
 ghost use Rattle.coins.specs.Sboxes.{place_of};
 ghost use Rattle.codebook.specs.Books.{numbered, meaning_of};
@@ -67,7 +67,7 @@ impl Codebook {
 
 // The number that a code reads as.
 fn read_number(radix: u8, code: &[u8]) -> u16
-    requires symbols { All (λ x. x < radix) code.now }
+    requires symbols { AllByRecursion (λ x. x < radix) code.now }
     requires few { radix ^ length code.now ≤ 4096 }
     ensures { result ≡ number_of radix code.now }
 {

@@ -2,14 +2,14 @@
 ghost use Rattle.std.specs.Prelude.{◌≡◌, ◌≤◌, not, length, take};
 ghost use Rattle.std.specs.Option.{option_map};
 ghost use Rattle.coins.specs.Boxes.{absent, permutes};
-ghost use Rattle.coins.specs.Sboxes.{entries as entriesOf, given};
+ghost use Rattle.coins.specs.Sboxes.{entries as entries_of, given};
 
 use crate::sbox::Sbox;
 
 impl Sbox {
     // The box of given entries: 2 to 4,096 of them, each below their count, and none twice.
     pub fn from_entries(entries: &[u8]) -> Option<Sbox>
-        ensures { option_map entriesOf result ≡ given entries.now }
+        ensures { option_map entries_of result ≡ given entries.now }
     {
         if entries.len() < 2 || entries.len() > 4096 {
             return None;

@@ -1,7 +1,5 @@
-use Rattle.std.proofs.Common.{◌≡◌, Ok, Err, sym, ap, ◌∙◌}
+use Rattle.std.proofs.Common.{Ok, Err, sym, ap, ◌∙◌}
 use Rattle.std.proofs.lemmas.Result.{err_from_is_err_and}
-use Rattle.block_lines.specs.declared.request.Request.{Request}
-use Rattle.block_lines.specs.Requests.{request_of}
 use Rattle.block_lines.proofs.Replies.{unread, unread_left, silence, silence_left, encrypted, encrypted_left, counted, counted_left, tagged, tagged_left}
 use Rattle.block_lines.proofs.answer.answer.Goals as goal
 

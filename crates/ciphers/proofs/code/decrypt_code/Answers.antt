@@ -1,5 +1,5 @@
-use Rattle.std.proofs.Common.{◌≡◌, ℕ, ◌+◌, ◌-◌, ◌<◌, ◌≤◌, length, take, drop, sym, ap, ◌∙◌, subst, arith}
-use Rattle.std.specs.List.{AllByRecursion as All}
+use Rattle.std.proofs.Common.{◌≡◌, ℕ, ◌+◌, ◌-◌, ◌<◌, ◌≤◌, length, take, sym, ap, ◌∙◌, subst, arith}
+use Rattle.std.specs.List.{AllByRecursion}
 use Rattle.pools.specs.Rows.{rows_of}
 use Rattle.ciphers.specs.Layers.{core_decrypt}
 use Rattle.ciphers.proofs.Doubled.{reads}
@@ -17,7 +17,7 @@ decrypt-requires c =
       table = reads_as c.radix.result p.radix radix c.inverse.result.now p.inverse c.inverse.ensures (reads p.radix p.inverse p.least p.most p.whole_inverse p.doubled_inverse p.inside_inverse);
       near = (c.requires.near.0, c.requires.near.1);
       room = (omega (arith, window_long code c.opened-window.result from c.opened-window.ensures room, c.requires.near.1, c.requires.few), c.requires.few);
-      symbols = window_symbols code c.opened-window.result from c.opened-window.ensures room c.radix.result (omega (arith, radix, p.least)) (subst (λ (a : ℕ). All (λ x. x < a) code) (sym radix) c.requires.symbols.each);
+      symbols = window_symbols code c.opened-window.result from c.opened-window.ensures room c.radix.result (omega (arith, radix, p.least)) (subst (λ (a : ℕ). AllByRecursion (λ x. x < a) code) (sym radix) c.requires.symbols.each);
     }
 
 pub returns : goal.returns

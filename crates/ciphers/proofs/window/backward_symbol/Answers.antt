@@ -1,4 +1,4 @@
-use Rattle.std.proofs.Common.{◌≡◌, ◌%◌, ◌<◌, ap, ◌∙◌, mod-eq_of_lt}
+use Rattle.std.proofs.Common.{◌≡◌, ap, ◌∙◌, mod-eq_of_lt}
 use Rattle.pools.specs.Rows.{rows_of}
 use Rattle.ciphers.specs.Layers.{image, minus, more}
 use Rattle.ciphers.proofs.Moves.{more_none, more_some}

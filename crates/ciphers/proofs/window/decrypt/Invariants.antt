@@ -1,12 +1,12 @@
 use Rattle.std.proofs.Common.{◌≡◌, ◌+◌, ◌<◌, ◌≤◌, length, get_or, take, drop}
-use Rattle.std.specs.List.{AllByRecursion as All}
+use Rattle.std.specs.List.{AllByRecursion}
 use Rattle.pools.specs.Rows.{rows_of}
 use Rattle.ciphers.specs.Layers.{core_decrypt}
 use Rattle.ciphers.proofs.window.decrypt.Given as goal
 
 abbrev pub invariant-loop-k : goal.invariant-loop-k
 invariant-loop-k l =
-    All (λ x. x < l.radix) l.window
+    AllByRecursion (λ x. x < l.radix) l.window
     × (l.k ≤ length l.indices)
     × (take l.len (drop l.k l.window) ≡ core_decrypt (rows_of l.radix 256 l.table) l.radix l.w l.v (drop l.k l.indices) (take l.len (drop (length l.indices) l.initial.window)))
     × (l.first ≡ get_or l.window l.k 0)

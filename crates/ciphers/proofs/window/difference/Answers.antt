@@ -1,4 +1,4 @@
-use Rattle.std.proofs.Common.{arith, rules}
+use Rattle.std.proofs.Common.{rules}
 use Rattle.ciphers.proofs.Moves.{minus_below, minus_above}
 use Rattle.ciphers.proofs.window.difference.Goals as goal
 

@@ -1,4 +1,4 @@
-use Rattle.std.proofs.Common.{◌+◌, ◌-◌, length, refl, arith, rules}
+use Rattle.std.proofs.Common.{◌+◌, length, refl, arith, rules}
 use Rattle.pools.proofs.Rows.{part_written, rows_room}
 use Rattle.pools.proofs.pool.write_row.Goals as goal
 

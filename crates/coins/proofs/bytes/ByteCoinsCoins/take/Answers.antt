@@ -2,7 +2,7 @@ use Rattle.std.proofs.Common.{◌≡◌, ◌+◌, ◌<◌, ◌≤◌, length, dr
 use Rattle.std.proofs.lemmas.List.{drop-drop, length-drop}
 use Rattle.faults.specs.declared.fault.Cause.TheVariants.{Range}
 use Rattle.faults.specs.Faults.{own}
-use Rattle.coins.specs.Coins.{refusal, bits_of, taking, after}
+use Rattle.coins.specs.Coins.{refusal, bits_of, taking}
 use Rattle.coins.proofs.Bits.{length_bits_of}
 use Rattle.coins.proofs.Takes.{take_none, take_many, take_short, take_good, answers, leaves, byte_coins_bits}
 use Rattle.coins.proofs.bytes.ByteCoinsCoins.take.Goals as goal

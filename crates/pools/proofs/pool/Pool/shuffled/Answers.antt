@@ -1,5 +1,4 @@
 use Rattle.std.proofs.Common.{Err, sym, refl, ap, ◌∙◌, ⊎_elim}
-use Rattle.coins.specs.Coins.{after}
 use Rattle.coins.proofs.Takes.{leaves}
 use Rattle.pools.proofs.Makings.{pool_low, pool_high, pool_within}
 use Rattle.pools.proofs.pool.Pool.shuffled.Goals as goal

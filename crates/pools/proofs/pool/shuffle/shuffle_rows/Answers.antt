@@ -1,7 +1,6 @@
 use Rattle.std.proofs.Common.{◌≡◌, ℕ, Ok, Err, sym, ap, ◌∙◌, subst, arith}
 use Rattle.faults.specs.Faults.{placed}
 use Rattle.coins.specs.Boxes.{making}
-use Rattle.coins.specs.Coins.{after}
 use Rattle.coins.specs.Sboxes.{entries}
 use Rattle.coins.proofs.Swaps.{counted_ok, counted_err}
 use Rattle.coins.proofs.Takes.{leaves}

@@ -1,4 +1,4 @@
-use Rattle.std.proofs.Common.{◌≡◌, sym, refl, ap, ◌∙◌}
+use Rattle.std.proofs.Common.{sym, refl, ap, ◌∙◌}
 use Rattle.formats.specs.Shapes.{form}
 use Rattle.ciphers.specs.Held.{network_of}
 use Rattle.ciphers.specs.Networks.{networked}
