@@ -51,7 +51,7 @@ abbrev pub command_in : Option (List ℕ) → Result Command Unreadable
 command_in w = and_then (present_in w) command_of
 
 abbrev pub block_in : Unreadable → Option (List ℕ) → Result (List ℕ) Unreadable
-block_in whyNot w = and_then (present_in w) (λ t. ok_or (block_of Either t) whyNot)
+block_in why_not w = and_then (present_in w) (λ t. ok_or (block_of Either t) why_not)
 
 abbrev pub number_in : Option (List ℕ) → Result ℕ Unreadable
 number_in w = and_then (present_in w) (λ t. ok_or (number_of Either t) why.Index)

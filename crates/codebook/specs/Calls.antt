@@ -75,7 +75,7 @@ module _ (b : Book) (f : Form) (run c : List ℕ) where
       let read = and_number_ok (checked (taken_by b f) f run c) (number (radix_of b.alphabet) c) n number_is in
       let p = passed (taken_by b f) f run c (sym read.0) in
       let long : length c ≡ b.len = p.code.long ∙ sym (taken_same b f p.takes).1 in
-      let out-is : out ≡ through b map c =
+      let out_is : out ≡ through b map c =
       writes ∙ ap (λ m. written m (length c) v) radix ∙ ap (λ m. written (radix_of b.alphabet) m v) long ∙
       ap (written (radix_of b.alphabet) b.len) (value ∙ ap (λ m. unwrap_or (map m) 0) read.1) in
-      swap_passed (meaning_of b) _ f run c _ refl (sym read.0) refl ∙ ap swapped (sym out-is)
+      swap_passed (meaning_of b) _ f run c _ refl (sym read.0) refl ∙ ap swapped (sym out_is)

@@ -1,10 +1,10 @@
 -- Texts of shapes: a letter, two digits for the length and, if wanted, a slash and three digits for the rounds. Assumes nothing.
---   digit_of      the number that a digit writes
---   numberOf      the number that some digits write
---   named_rounds  the rounds that stand after the length: none, or those after a slash
---   parts_of      the parts of a text
---   read_form     the answer to a text
---   text_of       the text that a form is written as, where three digits hold its rounds
+--   digit_of                  the number that a digit writes
+--   two_digits, three_digits  the number that some digits write
+--   named_rounds              the rounds that stand after the length: none, or those after a slash
+--   parts_of                  the parts of a text
+--   read_form                 the answer to a text
+--   text_of                   the text that a form is written as, where three digits hold its rounds
 use Rattle.std.specs.Prelude.{ℕ, ◌+◌, ◌-◌, ◌*◌, ◌/◌, ◌%◌, cond, ◌&&◌, List, [], ◌∷◌, ◌++◌, length, replicate, Some, None, Err, Option, Result, ◌==◌, nat_le, nat_lt}
 use Rattle.alphabets.specs.declared.alphabet.Alphabet.{Alphabet}
 use Rattle.faults.specs.declared.fault.Cause.TheVariants.{ShapeText}

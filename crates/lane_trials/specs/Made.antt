@@ -17,7 +17,7 @@ pub record Made (m : Meaning) (before after : List Entry) : Type 0 where
   pub kept : Kept before after
   pub law : OneList m (map asks before) (map says after)
 
-pub record BothMade (m n : Meaning) (before after others-before others-after : List Entry) : Type 0 where
+pub record BothMade (m n : Meaning) (before after others_before others_after : List Entry) : Type 0 where
   pub kept : Kept before after
-  pub others_kept : Kept others-before others-after
-  pub law : TwoLists m n (map asks before) (map asks others-before) (map says after) (map says others-after)
+  pub others_kept : Kept others_before others_after
+  pub law : TwoLists m n (map asks before) (map asks others_before) (map says after) (map says others_after)

@@ -35,14 +35,14 @@ module _ (m side : Meaning) (f : Form) (bars : (c : List ℕ) → m.barred f c �
   free_out : (c : List ℕ) → Free side f c → Free m f c
   free_out c r = record { code = r.code; open_to = bars c ∙ ap barred_past r.open_to }
 
-  lift : (go undo up_go up-undo : List ℕ → List ℕ) → ((c : List ℕ) → up_go c ≡ go c) → ((c : List ℕ) → up-undo c ≡ undo c) → Undone side f go undo → Undone m f up_go up-undo
-  lift go undo up_go up-undo g u law = record {
+  lift : (go undo up_go up_undo : List ℕ → List ℕ) → ((c : List ℕ) → up_go c ≡ go c) → ((c : List ℕ) → up_undo c ≡ undo c) → Undone side f go undo → Undone m f up_go up_undo
+  lift go undo up_go up_undo g u law = record {
     stays = λ c r. subst (λ (x : List ℕ). Free m f x) (sym (g c)) (free_out (go c) (law.stays c (free_in c r)));
     undoes = λ c r. u (up_go c) ∙ ap undo (g c) ∙ law.undoes c (free_in c r);
   }
 
 pub first_laws : (l r : Meaning) → Laws l → Laws r → Laws (preferring l r)
-first_laws l r left-laws right-laws =
+first_laws l r left_laws right_laws =
     let m = preferring l r in
     let is = prefers l r in
     record {
@@ -50,29 +50,29 @@ first_laws l r left-laws right-laws =
           elim (cases_Bool (l.taken f)) [
             | inl yep ↦
                 lift m l f (λ c. is.left_bars f c yep) (l.forward f run) (l.backward f run) (m.forward f run) (m.backward f run)
-                (λ c. is.left_swaps f run c yep) (λ c. is.left_back f run c yep) (left-laws.onward f run yep)
+                (λ c. is.left_swaps f run c yep) (λ c. is.left_back f run c yep) (left_laws.onward f run yep)
             | inr nope ↦
                 lift m r f (λ c. is.right_bars f c nope) (r.forward f run) (r.backward f run) (m.forward f run) (m.backward f run)
-                (λ c. is.right_swaps f run c nope) (λ c. is.right_back f run c nope) (right-laws.onward f run (sym (is.right_takes f nope) ∙ t))
+                (λ c. is.right_swaps f run c nope) (λ c. is.right_back f run c nope) (right_laws.onward f run (sym (is.right_takes f nope) ∙ t))
           ];
       homeward = λ f run t.
           elim (cases_Bool (l.taken f)) [
             | inl yep ↦
                 lift m l f (λ c. is.left_bars f c yep) (l.backward f run) (l.forward f run) (m.backward f run) (m.forward f run)
-                (λ c. is.left_back f run c yep) (λ c. is.left_swaps f run c yep) (left-laws.homeward f run yep)
+                (λ c. is.left_back f run c yep) (λ c. is.left_swaps f run c yep) (left_laws.homeward f run yep)
             | inr nope ↦
                 lift m r f (λ c. is.right_bars f c nope) (r.backward f run) (r.forward f run) (m.backward f run) (m.forward f run)
-                (λ c. is.right_back f run c nope) (λ c. is.right_swaps f run c nope) (right-laws.homeward f run (sym (is.right_takes f nope) ∙ t))
+                (λ c. is.right_back f run c nope) (λ c. is.right_swaps f run c nope) (right_laws.homeward f run (sym (is.right_takes f nope) ∙ t))
           ];
     }
 
 -- a call, by the side that takes the form
-module _ (l r : Meaning) (left-go right-go : Form → List ℕ → List ℕ → List ℕ) (f : Form) (run c : List ℕ) where
+module _ (l r : Meaning) (left_go right_go : Form → List ℕ → List ℕ → List ℕ) (f : Form) (run c : List ℕ) where
   abbrev m : Meaning
   m = preferring l r
 
   abbrev either : Form → List ℕ → List ℕ → List ℕ
-  either h s x = cond (l.taken h) (left-go h s x) (right-go h s x)
+  either h s x = cond (l.taken h) (left_go h s x) (right_go h s x)
 
   module _ (takes : true ≡ l.taken f) where
     left_taken : true ≡ m.taken f
@@ -82,13 +82,13 @@ module _ (l r : Meaning) (left-go right-go : Form → List ℕ → List ℕ → 
     left_refused {fault} e = swap_refused m either f run c true left_taken fault e
 
     module _ (ok : Ok tt ≡ checked true f run c) where
-      pub left_value : {result : Result Unit Fault} → result ≡ answer (swap l left-go f run c) → passed_up result ≡ answer (swap m either f run c)
+      pub left_value : {result : Result Unit Fault} → result ≡ answer (swap l left_go f run c) → passed_up result ≡ answer (swap m either f run c)
       left_value is =
-          side_value m l either left-go f run c ((prefers l r).left_bars f c (sym takes)) (cond-true (l.taken f) (left-go f run c) (right-go f run c) (sym takes)) true left_taken takes ok is
+          side_value m l either left_go f run c ((prefers l r).left_bars f c (sym takes)) (cond-true (l.taken f) (left_go f run c) (right_go f run c) (sym takes)) true left_taken takes ok is
 
-      pub left_after : {code : List ℕ} → code ≡ left (swap l left-go f run c) c → code ≡ left (swap m either f run c) c
+      pub left_after : {code : List ℕ} → code ≡ left (swap l left_go f run c) c → code ≡ left (swap m either f run c) c
       left_after is =
-          side_after m l either left-go f run c ((prefers l r).left_bars f c (sym takes)) (cond-true (l.taken f) (left-go f run c) (right-go f run c) (sym takes)) true left_taken takes ok is
+          side_after m l either left_go f run c ((prefers l r).left_bars f c (sym takes)) (cond-true (l.taken f) (left_go f run c) (right_go f run c) (sym takes)) true left_taken takes ok is
 
   module _ (out : false ≡ l.taken f) {t : Bool} (takes : t ≡ r.taken f) where
     right_taken : t ≡ m.taken f
@@ -98,10 +98,10 @@ module _ (l r : Meaning) (left-go right-go : Form → List ℕ → List ℕ → 
     right_refused {fault} e = swap_refused m either f run c t right_taken fault e
 
     module _ (ok : Ok tt ≡ checked t f run c) where
-      pub right_value : {result : Result Unit Fault} → result ≡ answer (swap r right-go f run c) → passed_up result ≡ answer (swap m either f run c)
+      pub right_value : {result : Result Unit Fault} → result ≡ answer (swap r right_go f run c) → passed_up result ≡ answer (swap m either f run c)
       right_value is =
-          side_value m r either right-go f run c ((prefers l r).right_bars f c (sym out)) (cond-false (l.taken f) (left-go f run c) (right-go f run c) (sym out)) t right_taken takes ok is
+          side_value m r either right_go f run c ((prefers l r).right_bars f c (sym out)) (cond-false (l.taken f) (left_go f run c) (right_go f run c) (sym out)) t right_taken takes ok is
 
-      pub right_after : {code : List ℕ} → code ≡ left (swap r right-go f run c) c → code ≡ left (swap m either f run c) c
+      pub right_after : {code : List ℕ} → code ≡ left (swap r right_go f run c) c → code ≡ left (swap m either f run c) c
       right_after is =
-          side_after m r either right-go f run c ((prefers l r).right_bars f c (sym out)) (cond-false (l.taken f) (left-go f run c) (right-go f run c) (sym out)) t right_taken takes ok is
+          side_after m r either right_go f run c ((prefers l r).right_bars f c (sym out)) (cond-false (l.taken f) (left_go f run c) (right_go f run c) (sym out)) t right_taken takes ok is

@@ -45,7 +45,7 @@ up_left (Some d) y c = refl
 -- the whole code is handed to a cipher that takes its form
 module _ (m side : Meaning) (up go : Form → List ℕ → List ℕ → List ℕ) (f : Form) (run c : List ℕ)
     (bars : m.barred f c ≡ barred_past (side.barred f c)) (goes : up f run c ≡ go f run c)
-    (t : Bool) (takes : t ≡ m.taken f) (side-takes : t ≡ side.taken f) (ok : Ok tt ≡ checked t f run c) where
+    (t : Bool) (takes : t ≡ m.taken f) (side_takes : t ≡ side.taken f) (ok : Ok tt ≡ checked t f run c) where
   above : swap m up f run c ≡ unless_barred (barred_past (side.barred f c)) (go f run c)
   above =
       swap_checked m up f run c t takes ok
@@ -53,7 +53,7 @@ module _ (m side : Meaning) (up go : Form → List ℕ → List ℕ → List ℕ
       ∙ ap (unless_barred (barred_past (side.barred f c))) goes
 
   below : swap side go f run c ≡ unless_barred (side.barred f c) (go f run c)
-  below = swap_checked side go f run c t side-takes ok
+  below = swap_checked side go f run c t side_takes ok
 
   pub side_value : {result : Result Unit Fault} → result ≡ answer (swap side go f run c) → passed_up result ≡ answer (swap m up f run c)
   side_value is = up_value (side.barred f c) (go f run c) (go f run c) above below is

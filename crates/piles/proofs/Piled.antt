@@ -73,8 +73,8 @@ pub kept_over_first_laws : (kept : ℕ) (walked other : Codebook) → Laws (kept
 kept_over_first_laws kept walked other =
     let left = walking (meaning_of (book walked)) passes_luhn in
     let right = meaning_of (book other) in
-    let left-laws = walk_laws (meaning_of (book walked)) passes_luhn (lawful (book walked) (sound walked)) in
-    keep_laws kept (preferring left right) (first_laws left right left-laws (lawful (book other) (sound other)))
+    let left_laws = walk_laws (meaning_of (book walked)) passes_luhn (lawful (book walked) (sound walked)) in
+    keep_laws kept (preferring left right) (first_laws left right left_laws (lawful (book other) (sound other)))
 
 pub nonzero_over_luhn_laws : (network : Fast) → Laws (nonzero_over_luhn_pile (network_of network))
 nonzero_over_luhn_laws network =

@@ -1,10 +1,10 @@
 -- Piles: what some layers over layers over ciphers mean, and when a pile is refused. Assumes nothing.
 --   if_keepable             what a call gives where so many symbols may stay, and a refusal where they may not
 --   nonzero_over_kept_pile  a walk to codes that do not begin with 0, over a kept prefix, over the network
---   kept_over_first_pile    a kept prefix, over the first of two: a walk to codes that pass the Luhn test over one codebook,
---                    and another codebook
---   nonzero_over_luhn_pile  a walk to codes that do not begin with 0, over a walk to codes that pass the Luhn test, over the
---                    network
+--   kept_over_first_pile    a kept prefix, over the first of two: a walk to codes that pass the Luhn test over one
+--                           codebook, and another codebook
+--   nonzero_over_luhn_pile  a walk to codes that do not begin with 0, over a walk to codes that pass the Luhn test,
+--                           over the network
 use Rattle.std.specs.Prelude.{ℕ, cond, ◌&&◌, nat_le}
 use Rattle.faults.specs.declared.fault.Cause.TheVariants.{Range}
 use Rattle.faults.specs.Faults.{own}

@@ -1,7 +1,7 @@
 // A pool: 256 boxes of one radix, and their inverses.
 ghost use Rattle.std.specs.Prelude.{◌≡◌, ◌+◌, ◌*◌, ◌<◌, ◌≤◌, ◌++◌, length, take};
 ghost use Rattle.std.specs.List.{AllByRecursion};
-ghost use Rattle.coins.specs.Sboxes.{entries as entries_of, inverses as inversesOf};
+ghost use Rattle.coins.specs.Sboxes.{entries as entries_of, inverses as inverses_of};
 ghost use Rattle.pools.specs.Rows.{rows_of, flat, written, Inside, Undone};
 
 use coins::sbox::Sbox;
@@ -45,7 +45,7 @@ fn write_box(n: usize, sbox: &Sbox, forward: &mut [u8], inverse: &mut [u8])
     requires most { sbox.now.radix ≤ 64 }
     requires whole { (length forward.old ≡ 32768) × (length inverse.old ≡ 32768) }
     ensures forward { forward.new ≡ written sbox.now.radix n forward.old (entries_of sbox.now) }
-    ensures inverse { inverse.new ≡ written sbox.now.radix n inverse.old (inversesOf sbox.now) }
+    ensures inverse { inverse.new ≡ written sbox.now.radix n inverse.old (inverses_of sbox.now) }
 {
     write_row(n, sbox.images(), forward);
     write_row(n, sbox.preimages(), inverse);

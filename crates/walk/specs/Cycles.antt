@@ -123,8 +123,8 @@ module _ (Open : List ℕ → Type 0) (go undo : List ℕ → List ℕ) (stays :
               let w = trail_in go (suc (length denied)) (go c) z i in
               all z (subst Open (sym w.2) (times_stays w.0 (go c) (stays c open_to))) (ap says w.2 ∙ never w.0 w.1)) in
               let long = length_trail go (suc (length denied)) (go c) in
-              let never-so : ⊥ = omega arith in
-              absurd never-so
+              let never_so : ⊥ = omega arith in
+              absurd never_so
         ]
 
     -- and the way back passes the same codes
