@@ -20,7 +20,7 @@ use Rattle.keys.specs.Distances.{w_of, w'_of, distances_of}
 use Rattle.ciphers.specs.Layers.{core_encrypt}
 use Rattle.ciphers.specs.Meanings.{Meaning}
 use Rattle.ciphers.specs.Swaps.{onward, swapped, refused, barred_at}
-use Rattle.codebook.specs.Books.{Book, book_of, meaning_of}
+use Rattle.codebook.specs.Books.{book_of, meaning_of}
 use Rattle.layers.specs.Keeps.{keeping}
 use Rattle.rules.specs.Rules.{leads_nonzero, passes_luhn}
 use Rattle.walk.specs.Walks.{walking}

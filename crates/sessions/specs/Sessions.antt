@@ -5,7 +5,7 @@
 --   BookOpened     a first line opened a codebook, or was refused
 --   NetworkOpened  a first line opened the network, or was refused
 --   Opened         the same, by what the line spells
-use Rattle.std.specs.Prelude.{◌≡◌, ℕ, List, [], replicate, Some, None, Ok, Err, Option, Result}
+use Rattle.std.specs.Prelude.{◌≡◌, List, [], replicate, Some, None, Ok, Err, Option, Result}
 use Rattle.faults.specs.declared.fault.Cause.TheVariants.{Line}
 use Rattle.faults.specs.declared.fault.Fault.{Fault}
 use Rattle.faults.specs.Faults.{own}
