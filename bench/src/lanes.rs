@@ -202,7 +202,7 @@ fn way<L: Lookup>(format: Format, direction: Direction, set_up: &Row, indices: &
     let longer = side_by_side(
         "longer",
         ours(network, format.longer_text, &one[..NEW_RUNS]),
-        || {},
+        || black_box(()),
     );
     let longer = a_code(longer, NEW_RUNS, 1).ours_ns;
     // A further code costs so much a layer, and something beside its layers. The baseline's layers
