@@ -15,6 +15,7 @@ pub enum Alphabet {
     Alphanumeric,
 }
 
+// Calls with names of their own, and no `From`: an alphabet goes with two bytes, its letter and its radix.
 impl Alphabet {
     // The alphabet that a letter names, as at the front of a shape's text.
     pub fn from_letter(letter: u8) -> Option<Alphabet>
@@ -83,8 +84,5 @@ fn span(x: u8, first: u8, last: u8, start: u8) -> Option<u8>
     requires { last - first + start < 256 }
     ensures { result ≡ span_at x first last start }
 {
-    if x < first || x > last {
-        return None;
-    }
-    Some(x - first + start)
+    (first..=last).contains(&x).then(|| x - first + start)
 }

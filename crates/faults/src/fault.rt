@@ -2,42 +2,44 @@
 ghost use Rattle.std.specs.Prelude.{◌≡◌};
 ghost use Rattle.faults.specs.Faults.{number_of, own, placed, deeper};
 
+use std::fmt;
+
 // What a call can be refused for. The order is the order in which causes are looked for, except that an
 // unreadable line comes first; `number` gives each its number.
 #[derive(Clone, Copy, PartialEq, Eq, Debug)]
 pub enum Cause {
     // a number handed to a call is outside the range that the call takes
-    Range,
+    Range = 1,
     // a shape's text is not of its form
-    ShapeText,
+    ShapeText = 2,
     // a length of 0 or above 32
-    Length,
+    Length = 3,
     // rounds below the least, too many layers, or rounds named at length 1
-    Rounds,
+    Rounds = 4,
     // a lane that is not 1 to 8
-    Lane,
+    Lane = 5,
     // an illegal run name
-    RunName,
+    RunName = 6,
     // a start on a lane that has a run
-    LaneHasRun,
+    LaneHasRun = 7,
     // a shape that the cipher does not take, or a codebook with too many codes
-    ShapeNotTaken,
+    ShapeNotTaken = 8,
     // a call on a lane that has no run
-    LaneHasNoRun,
+    LaneHasNoRun = 9,
     // a code of another length than its shape's
-    CodeLength,
+    CodeLength = 10,
     // a byte or a number that is no symbol
-    NotASymbol,
+    NotASymbol = 11,
     // a code that the cipher does not swap
-    CodeBarred,
+    CodeBarred = 12,
     // too few coins
-    CoinsShort,
+    CoinsShort = 13,
     // a pool file's mark, version, radix or size
-    PoolFile,
+    PoolFile = 14,
     // a pool row that is no permutation
-    PoolRow,
+    PoolRow = 15,
     // a line of the program that cannot be read
-    Line,
+    Line = 16,
 }
 
 impl Cause {
@@ -45,24 +47,7 @@ impl Cause {
     pub fn number(self) -> u8
         ensures { result ≡ number_of self }
     {
-        match self {
-            Cause::Range => 1,
-            Cause::ShapeText => 2,
-            Cause::Length => 3,
-            Cause::Rounds => 4,
-            Cause::Lane => 5,
-            Cause::RunName => 6,
-            Cause::LaneHasRun => 7,
-            Cause::ShapeNotTaken => 8,
-            Cause::LaneHasNoRun => 9,
-            Cause::CodeLength => 10,
-            Cause::NotASymbol => 11,
-            Cause::CodeBarred => 12,
-            Cause::CoinsShort => 13,
-            Cause::PoolFile => 14,
-            Cause::PoolRow => 15,
-            Cause::Line => 16,
-        }
+        self as u8
     }
 }
 
@@ -91,11 +76,7 @@ impl Fault {
     pub fn at(self, place: usize) -> Fault
         ensures { result ≡ placed self place }
     {
-        Fault {
-            cause: self.cause,
-            place,
-            depth: self.depth,
-        }
+        Fault { place, ..self }
     }
 
     // The refusal as a caller passes it up: one deeper, and never deeper than 65,535.
@@ -103,10 +84,21 @@ impl Fault {
         ensures { result ≡ deeper self }
     {
         let depth = self.depth.saturating_add(1);
-        Fault {
-            cause: self.cause,
-            place: self.place,
-            depth,
-        }
+        Fault { depth, ..self }
+    }
+}
+
+// A refusal as it is printed: a mark, and its three numbers.
+impl fmt::Display for Fault {
+    ghost use Rattle.std.specs.Prelude.{Some};
+    ghost use Rattle.faults.specs.FaultText.{text_of};
+
+    ghost output = { λ f. Some (text_of f) };
+
+    fn fmt<W: fmt::Write>(&self, f: &mut fmt::Formatter<W>) -> fmt::Result {
+        let cause = self.cause.number();
+        let place = self.place;
+        let depth = self.depth;
+        write!(f, "!{cause} {place} {depth}")
     }
 }
