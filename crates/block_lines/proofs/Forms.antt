@@ -20,8 +20,8 @@ use Rattle.block_lines.specs.declared.request.Command.{Command}
 use Rattle.block_lines.specs.declared.request.Command.TheVariants as command
 use Rattle.block_lines.specs.declared.request.Request.{Request}
 use Rattle.block_lines.specs.declared.request.Request.TheVariants.{Encrypt, Counter, Cmac}
-use Rattle.block_lines.specs.Requests.{and_then, present_in, ended, command_of, command_in, arguments_of, block_in, number_in, digits_in, encrypt_of, counter_of, cmac_of, words_ask, silent, request_of}
-use Rattle.block_lines.specs.Answers.{last_of, answer_to, answer_of, Asks, encrypt, counter, tag, tag_of_nothing, Answered}
+use Rattle.block_lines.specs.Requests.{and_then, mapped_ok, present_in, ended, command_of, command_in, arguments_of, block_in, number_in, digits_in, encrypt_of, counter_of, cmac_of, words_ask, silent, request_of}
+use Rattle.block_lines.specs.Answers.{last_of, answer_to, reply, answer_of, Asks, encrypt, counter, tag, tag_of_nothing, Answered}
 use Rattle.block_lines.proofs.Chains.{goes_on, nothing_asked, words_ask_lem}
 use Rattle.block_lines.proofs.Replies.{replies, silence}
 
@@ -36,13 +36,17 @@ unfolding number_of
 number_word [] n e = absurd (let z : ◌≡◌ {A = ℕ} 0 1 = cc in omega arith)
 number_word (b ∷ bs) n e = ap (λ o. ok_or o Index) (sym e)
 
+-- what words ask for, as a line does
+abbrev asking : List (List ℕ) → Result (Option Request) Unreadable
+asking ws = mapped_ok (λ q. Some q) (words_ask ws)
+
 -- a line by its words
 module _ (line w : List ℕ) (ws : List (List ℕ)) (split : words_of line ≡ w ∷ ws) where
   whole : line ≡ joined (w ∷ ws)
   whole = sym (splits.joins line) ∙ ap joined split
 
-  pub asks : silent (joined (w ∷ ws)) ≡ false → words_ask (w ∷ ws) ≡ request_of line
-  asks e = ap words_ask (sym split) ∙ words_ask_lem line (sym (ap silent whole ∙ e))
+  pub asks : silent (joined (w ∷ ws)) ≡ false → asking (w ∷ ws) ≡ request_of line
+  asks e = ap asking (sym split) ∙ words_ask_lem line (sym (ap silent whole ∙ e))
 
 -- the key, then what the command takes
 after_key : (r : Result Request Unreadable) (k key : List ℕ) (f : List ℕ → Result Request Unreadable) → block_of Either k ≡ Some key → f key ≡ r → and_then (block_in Key (Some k)) f ≡ r
@@ -81,10 +85,10 @@ last_word p m line e =
     ap (drop (length line - length m)) e ∙ drop_at p m (length line - length m) (omega (arith, ap length e, length-append p m))
 
 -- the tag of the line's last n bytes
-tag_answer : (line key message : List ℕ) (n : ℕ) → words_ask (words_of line) ≡ Ok (Cmac key n) → words_ask (words_of line) ≡ request_of line → bytes_of Either (last_of n line) ≡ Some message → answer_of line ≡ Ok (Some (cmac key message))
+tag_answer : (line key message : List ℕ) (n : ℕ) → words_ask (words_of line) ≡ Ok (Cmac key n) → asking (words_of line) ≡ request_of line → bytes_of Either (last_of n line) ≡ Some message → answer_of line ≡ Ok (Some (cmac key message))
 unfolding answer_to
 tag_answer line key message n e r h =
-    sym (replies line (Cmac key n) (sym e ∙ r)) ∙ ap (λ o. and_then (and_then (ok_or o Message) (λ x. Ok (cmac key x))) (λ tag. Ok (Some tag))) h
+    sym (replies line (Cmac key n) (sym (ap (mapped_ok (λ q. Some q)) e) ∙ r)) ∙ ap (λ o. and_then (and_then (ok_or o Message) (λ x. Ok (cmac key x))) (λ tag. Ok (Some tag))) h
 
 -- the message of a line is its last bytes
 message_last : (line k m : List ℕ) → words_of line ≡ codes "cmac" ∷ k ∷ m ∷ [] → last_of (length m) line ≡ m
@@ -213,16 +217,16 @@ form line q e =
 each : (line out : List ℕ) → Asks line out → answer_of line ≡ Ok (Some out)
 unfolding answer_to bytes_of
 each line out (encrypt k b key block split ek eb e) =
-    sym (replies line (Encrypt key block) (sym (encrypt_asks k b key block ek eb) ∙ asks line (codes "encrypt") (k ∷ b ∷ []) split refl)) ∙ ap (λ o. Ok (Some o)) (sym e)
+    sym (replies line (Encrypt key block) (sym (ap (mapped_ok (λ q. Some q)) (encrypt_asks k b key block ek eb)) ∙ asks line (codes "encrypt") (k ∷ b ∷ []) split refl)) ∙ ap (λ o. Ok (Some o)) (sym e)
 each line out (counter k v i key iv n split ek ev ei e) =
-    sym (replies line (Counter key iv n) (sym (counter_asks k v i key iv n ek ev ei) ∙ asks line (codes "counter") (k ∷ v ∷ i ∷ []) split refl)) ∙ ap (λ o. Ok (Some o)) (sym e)
+    sym (replies line (Counter key iv n) (sym (ap (mapped_ok (λ q. Some q)) (counter_asks k v i key iv n ek ev ei)) ∙ asks line (codes "counter") (k ∷ v ∷ i ∷ []) split refl)) ∙ ap (λ o. Ok (Some o)) (sym e)
 each line out (tag k m key message split h ek em e) =
     let r = asks line (codes "cmac") (k ∷ m ∷ []) split refl in
-    tag_answer line key message (length m) (ap words_ask split ∙ cmac_asks k m key message ek em h) (ap words_ask split ∙ r) (ap (bytes_of Either) (message_last line k m split) ∙ em)
+    tag_answer line key message (length m) (ap words_ask split ∙ cmac_asks k m key message ek em h) (ap asking split ∙ r) (ap (bytes_of Either) (message_last line k m split) ∙ em)
     ∙ ap (λ o. Ok (Some o)) (sym e)
 each line out (tag_of_nothing k key split ek e) =
     let r = asks line (codes "cmac") (k ∷ []) split refl in
-    tag_answer line key [] 0 (ap words_ask split ∙ cmac_asks_nothing k key ek) (ap words_ask split ∙ r) (ap (bytes_of Either) (drop_all (length line - 0) line (omega arith)))
+    tag_answer line key [] 0 (ap words_ask split ∙ cmac_asks_nothing k key ek) (ap asking split ∙ r) (ap (bytes_of Either) (drop_all (length line - 0) line (omega arith)))
     ∙ ap (λ o. Ok (Some o)) (sym e)
 
 skips : (line : List ℕ) → silent line ≡ true → answer_of line ≡ Ok None
@@ -232,8 +236,9 @@ skips line e = sym (silence line (nothing_asked line (sym e)))
 asked_for : (line : List ℕ) (a : Option (List ℕ)) → answer_of line ≡ Ok a → silent line ≡ false → (out : List ℕ) × Asks line out
 unfolding answer_of
 asked_for line a e t =
-    let r = read_first (request_of line) (answer_to line) a e in
-    form line r.0 (words_ask_lem line (sym t) ∙ r.1)
+    let r = read_first (request_of line) (reply line) a e in
+    let q = read_first (words_ask (words_of line)) (λ x. Ok (Some x)) r.0 (words_ask_lem line (sym t) ∙ r.1) in
+    form line q.0 q.1
 
 same_out : (r : Result (Option (List ℕ)) Unreadable) (a b : List ℕ) → r ≡ Ok (Some a) → r ≡ Ok (Some b) → a ≡ b
 same_out r a b e h = cc

@@ -15,7 +15,7 @@ use Rattle.block_cipher.specs.Counter.{counter_block}
 use Rattle.block_lines.specs.declared.unreadable.Unreadable.{Unreadable}
 use Rattle.block_lines.specs.declared.unreadable.Unreadable.TheVariants.{Message}
 use Rattle.block_lines.specs.declared.request.Request.{Request}
-use Rattle.block_lines.specs.declared.request.Request.TheVariants.{Nothing, Encrypt, Counter, Cmac}
+use Rattle.block_lines.specs.declared.request.Request.TheVariants.{Encrypt, Counter, Cmac}
 use Rattle.block_lines.specs.Requests.{and_then, silent, request_of}
 
 -- the last n bytes of a line
@@ -27,20 +27,24 @@ abbrev pub tag_of : List ℕ → List ℕ → Result (List ℕ) Unreadable
 tag_of key digits = and_then (ok_or (bytes_of Either digits) Message) (λ message. Ok (cmac key message))
 
 unfoldable pub answer_to : List ℕ → Request → Result (Option (List ℕ)) Unreadable
-answer_to line Nothing = Ok None
 answer_to line (Encrypt key block) = Ok (Some (cipher key block))
 answer_to line (Counter key iv i) = Ok (Some (counter_block key iv i))
 answer_to line (Cmac key n) = and_then (tag_of key (last_of n line)) (λ tag. Ok (Some tag))
 
-unfoldable pub answer_of : List ℕ → Result (Option (List ℕ)) Unreadable
-answer_of line = and_then (request_of line) (answer_to line)
+-- nothing is answered nothing
+abbrev pub reply : List ℕ → Option Request → Result (Option (List ℕ)) Unreadable
+reply line None = Ok None
+reply line (Some q) = answer_to line q
 
-unfoldable pub left_by : List ℕ → Result Request Unreadable → List ℕ
+unfoldable pub answer_of : List ℕ → Result (Option (List ℕ)) Unreadable
+answer_of line = and_then (request_of line) (reply line)
+
+unfoldable pub left_by : List ℕ → Result (Option Request) Unreadable → List ℕ
 left_by line (Err why) = line
-left_by line (Ok Nothing) = line
-left_by line (Ok (Encrypt key block)) = line
-left_by line (Ok (Counter key iv i)) = line
-left_by line (Ok (Cmac key n)) =
+left_by line (Ok None) = line
+left_by line (Ok (Some (Encrypt key block))) = line
+left_by line (Ok (Some (Counter key iv i))) = line
+left_by line (Ok (Some (Cmac key n))) =
     take (length line - n) line ++ in_place (last_of n line) (bytes_of Either (last_of n line))
 
 unfoldable pub left_of : List ℕ → List ℕ

@@ -7,7 +7,8 @@
 --   digits_in   how many digits of bytes a word is; no word is none
 --   ended       there is no word more
 --   silent      a line that asks for nothing: empty, or with # first
---   request_of  what a line asks for
+--   words_ask   what words ask for
+--   request_of  what a line asks for, if anything
 use Rattle.std.specs.Prelude.{ℕ, Bool, true, cond, List, [], ◌∷◌, length, is_some, Some, None, Ok, Err, codes, Option, Result, ◌==◌}
 use Rattle.std.specs.Option.{ok_or}
 use Rattle.std.specs.Str.{bytes_eq}
@@ -20,7 +21,7 @@ use Rattle.block_lines.specs.declared.unreadable.Unreadable.TheVariants as why
 use Rattle.block_lines.specs.declared.request.Command.{Command}
 use Rattle.block_lines.specs.declared.request.Command.TheVariants as command
 use Rattle.block_lines.specs.declared.request.Request.{Request}
-use Rattle.block_lines.specs.declared.request.Request.TheVariants.{Nothing, Encrypt, Counter, Cmac}
+use Rattle.block_lines.specs.declared.request.Request.TheVariants.{Encrypt, Counter, Cmac}
 
 -- f of what was read, or why nothing was
 abbrev pub and_then : {A B : Type 0} → Result A Unreadable → (A → Result B Unreadable) → Result B Unreadable
@@ -90,5 +91,5 @@ abbrev pub silent : List ℕ → Bool
 silent [] = true
 silent (b ∷ bs) = b == 35
 
-unfoldable pub request_of : List ℕ → Result Request Unreadable
-request_of line = cond (silent line) (Ok Nothing) (words_ask (words_of line))
+unfoldable pub request_of : List ℕ → Result (Option Request) Unreadable
+request_of line = cond (silent line) (Ok None) (mapped_ok (λ q. Some q) (words_ask (words_of line)))

@@ -14,12 +14,15 @@ use text::hex::Letters;
 // The sixteen bytes that a line is answered, none for a line that asks for nothing, or why it is unreadable.
 // A message is read where it stands, so that its bytes take the place of the first half of its digits; nothing
 // else of the line is changed.
+#[tactic(auto, unfolding(crate::specs::Answers::answer_to, crate::specs::Answers::answer_of, crate::specs::Answers::left_by, crate::specs::Answers::left_of))]
 pub fn answer(line: &mut [u8]) -> Result<Option<[u8; 16]>, Unreadable>
     ensures value { result ≡ answer_of line.old }
     ensures after { line.new ≡ left_of line.old }
 {
-    match read_request(line)? {
-        Request::Nothing => Ok(None),
+    let Some(request) = read_request(line)? else {
+        return Ok(None);
+    };
+    match request {
         Request::Encrypt(key, block) => Ok(Some(Aes128::new(key).encrypt(block))),
         Request::Counter(key, iv, index) => Ok(Some(Aes128::new(key).counter_block(iv, index))),
         Request::Cmac(key, digits) => {
@@ -31,19 +34,15 @@ pub fn answer(line: &mut [u8]) -> Result<Option<[u8; 16]>, Unreadable>
 }
 
 // Each form of line is answered what it asks for.
-pub fn lines_are_answered() -> u8
+pub fn lines_are_answered()
     ensures { Answered }
-{
-    0
-}
+{}
 
 // The tag of the message that digits spell, which are read where they stand.
 fn tag(key: [u8; 16], digits: &mut [u8]) -> Result<[u8; 16], Unreadable>
     ensures value { result ≡ tag_of key digits.old }
     ensures after { digits.new ≡ in_place digits.old (bytes_of Either digits.old) }
 {
-    let Some(n) = hex::decode(Letters::Either, digits) else {
-        return Err(Unreadable::Message);
-    };
+    let n = hex::decode(Letters::Either, digits).ok_or(Unreadable::Message)?;
     Ok(Cmac::new(key).tag(&digits[0..n]))
 }

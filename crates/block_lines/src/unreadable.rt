@@ -1,6 +1,9 @@
 // Why a line cannot be read.
-ghost use Rattle.std.specs.Prelude.{◌≡◌};
+ghost use Rattle.std.specs.Prelude.{◌≡◌, Some};
 ghost use Rattle.block_lines.specs.Messages.{message_of};
+
+use std::error::Error;
+use std::fmt;
 
 // What a line is refused for: the first thing that is wrong in it, from left to right.
 #[derive(Clone, Copy, PartialEq, Eq, Debug)]
@@ -43,3 +46,13 @@ impl Unreadable {
         }
     }
 }
+
+impl fmt::Display for Unreadable {
+    ghost output = { λ why. Some (message_of why) };
+
+    fn fmt<W: fmt::Write>(&self, f: &mut fmt::Formatter<W>) -> fmt::Result {
+        f.write_str(self.message())
+    }
+}
+
+impl Error for Unreadable {}

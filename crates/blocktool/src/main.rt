@@ -9,27 +9,23 @@ use text::hex;
 
 fn main(rt: HostRuntime) -> io::Result<()> {
     let heap = rt.alloc();
-    let mut number: u64 = 0;
-    for line in BufReader::new(heap, rt.stdin())?.split(heap, b'\n') {
+    let lines = BufReader::new(heap, rt.stdin())?.split(heap, b'\n');
+    for (before, line) in lines.enumerate() {
         let mut line = line?;
-        number = number.saturating_add(1);
-        reply(&rt, number, &mut line)?;
+        reply(&rt, before.saturating_add(1), &mut line)?;
     }
     Ok(())
 }
 
 // Prints what a line is answered. A carriage return at its end is not part of it.
-fn reply(rt: &HostRuntime, number: u64, line: &mut Vec<u8>) -> io::Result<()> {
+fn reply(rt: &HostRuntime, number: usize, line: &mut Vec<u8>) -> io::Result<()> {
     if line.as_slice().ends_with(b"\r") {
         let _ = line.pop();
     }
     match answer(line.as_mut_slice()) {
         Ok(None) => Ok(()),
         Ok(Some(block)) => print_block(rt, block),
-        Err(why) => {
-            let message = why.message();
-            println!(rt; "line {number}: {message}")
-        }
+        Err(why) => println!(rt; "line {number}: {why}"),
     }
 }
 

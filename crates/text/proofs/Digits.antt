@@ -1,12 +1,14 @@
 -- What digits spell. Assumes nothing.
-use Rattle.std.proofs.Common.{◌≡◌, ℕ, ◌+◌, ◌*◌, ◌/◌, ◌%◌, ◌<◌, true, false, eqb, List, [], ◌∷◌, ◌++◌, length, get_or, take, drop, set, is_some, Some, None, Option, sym, refl, ap, ◌∙◌, inl, inr, arith, length-set}
+use Rattle.std.proofs.Common.{◌≡◌, ℕ, zero, suc, ◌-◌, cond, Bool, ◌&&◌, ◌≤◌, ◌+◌, ◌*◌, ◌/◌, ◌%◌, ◌<◌, true, false, eqb, List, [], ◌∷◌, ◌++◌, length, get_or, take, drop, set, is_some, Some, None, Option, sym, refl, ap, ◌∙◌, arith, length-set}
 use Rattle.std.specs.Option.{option_map}
+use Rattle.std.specs.Simd.{first_chunks}
+use Rattle.std.specs.List.{list_all}
 use Rattle.std.proofs.lemmas.List.{drop_more, append_assoc, append-nil, take_all, take_more, take_more_set, at_drop_more, at_drop_all}
 use Rattle.std.proofs.lemmas.Bool.Decides.{nat_tests}
-use Rattle.std.proofs.lemmas.Bool.{true≢false, cases_Bool, eqb-true, eqb-false, eq-eqb, ne_eqb, cond-true, cond-false}
+use Rattle.std.proofs.lemmas.Bool.{eq-eqb, ne_eqb, cond-true, cond-false}
 use Rattle.text.specs.declared.hex.Letters.{Letters}
 use Rattle.text.specs.declared.hex.Letters.TheVariants.{Upper, Either}
-use Rattle.text.specs.Hex.{digit_of, both, byte_of, bytes_of, block_of, lower_digit, digits_of, Bytes, ReadsBack}
+use Rattle.text.specs.Hex.{within, digit_of, both, byte_of, bytes_of, block_of, lower_digit, digits_of, Bytes, ReadsBack}
 
 -- a digit's value is below 16
 pub digit_below : (l : Letters) (b d : ℕ) → Some d ≡ digit_of l b → d < 16
@@ -14,19 +16,21 @@ unfolding digit_of
 digit_below Upper b d e = grind (arith, nat_tests)
 digit_below Either b d e = grind (arith, nat_tests)
 
+-- whether small letters are digits
+abbrev pub takes_small : Letters → Bool
+takes_small Upper = false
+takes_small Either = true
+
+-- the value of a digit, by one list of cases for both
+pub digit_is : (l : Letters) (b : ℕ) → digit_of l b ≡ cond (within 48 57 b) (Some (b - 48)) (cond (within 65 70 b) (Some (b - 65 + 10)) (cond (takes_small l && within 97 102 b) (Some (b - 97 + 10)) None))
+unfolding digit_of
+digit_is Upper b = grind (arith, nat_tests)
+digit_is Either b = grind (arith, nat_tests)
+
 -- the byte of two digits
-module _ (l : Letters) (high low : ℕ) where
-  pub no_high : None ≡ digit_of l high → None ≡ byte_of l high low
-  unfolding byte_of
-  no_high e = ap (λ o. both (λ h d. 16 * h + d) o (digit_of l low)) e
-
-  pub no_low : (h : ℕ) → Some h ≡ digit_of l high → None ≡ digit_of l low → None ≡ byte_of l high low
-  unfolding byte_of
-  no_low h eh e = ap (both (λ h d. 16 * h + d) (Some h)) e ∙ ap (λ o. both (λ h d. 16 * h + d) o (digit_of l low)) eh
-
-  pub two_digits : (h d : ℕ) → Some h ≡ digit_of l high → Some d ≡ digit_of l low → Some (16 * h + d) ≡ byte_of l high low
-  unfolding byte_of
-  two_digits h d eh e = ap (both (λ h d. 16 * h + d) (Some h)) e ∙ ap (λ o. both (λ h d. 16 * h + d) o (digit_of l low)) eh
+two_digits : (l : Letters) (high low h d : ℕ) → Some h ≡ digit_of l high → Some d ≡ digit_of l low → Some (16 * h + d) ≡ byte_of l high low
+unfolding byte_of
+two_digits l high low h d eh e = ap (both (λ h d. 16 * h + d) (Some h)) e ∙ ap (λ o. both (λ h d. 16 * h + d) o (digit_of l low)) eh
 
 -- the bytes from digit 2 i on
 pub bytes_step : (l : Letters) (text : List ℕ) (i : ℕ) → 2 * i + 1 < length text → bytes_of l (drop (2 * i) text) ≡ both (λ b bs. b ∷ bs) (byte_of l (get_or text (2 * i) 0) (get_or text (2 * i + 1) 0)) (bytes_of l (drop (2 * (i + 1)) text))
@@ -77,25 +81,47 @@ module _ (l : Letters) (text : List ℕ) (i : ℕ) (pair : 2 * i + 1 < length te
       → None ≡ bytes_of l text
   no_pair out e inv = sym (ap (before (take i out)) (no_byte e)) ∙ inv
 
-  -- the same of the question whether all pairs are bytes
-  some_both : (o : Option ℕ) (p : Option (List ℕ)) → is_some o ≡ true → is_some (both (λ b bs. b ∷ bs) o p) ≡ is_some p
-  some_both None p e = absurd (true≢false (sym e))
-  some_both (Some b) None e = refl
-  some_both (Some b) (Some bs) e = refl
+-- the pairs of a text, as `as_chunks` parts it
+pub pair_at : (text : List ℕ) (k i : ℕ) (d : List ℕ) → i < k → 2 * k ≤ length text → get_or (first_chunks 2 k text) i d ≡ get_or text (2 * i) 0 ∷ get_or text (2 * i + 1) 0 ∷ []
+pair_at text zero i d h j = absurd (omega (arith, h))
+pair_at [] (suc k) i d h j = absurd (omega (arith, j))
+pair_at (x ∷ []) (suc k) i d h j = absurd (omega (arith, j))
+pair_at (x ∷ y ∷ rest) (suc k) zero d h j = refl
+pair_at (x ∷ y ∷ rest) (suc k) (suc i) d h j =
+    let e : 2 * suc i ≡ suc (suc (2 * i)) = omega arith in
+    let f : 2 * suc i + 1 ≡ suc (suc (2 * i + 1)) = omega arith in
+    pair_at rest k i d (omega (arith, h)) (omega (arith, j))
+    ∙ ap (λ n. get_or (x ∷ y ∷ rest) n 0 ∷ get_or rest (2 * i + 1) 0 ∷ []) (sym e)
+    ∙ ap (λ n. get_or (x ∷ y ∷ rest) (2 * suc i) 0 ∷ get_or (x ∷ y ∷ rest) n 0 ∷ []) (sym f)
 
-  pub still_readable : is_some (byte_of l (get_or text (2 * i) 0) (get_or text (2 * i + 1) 0)) ≡ true
-      → is_some (bytes_of l (drop (2 * i) text)) ≡ is_some (bytes_of l text)
-      → is_some (bytes_of l (drop (2 * (i + 1)) text)) ≡ is_some (bytes_of l text)
-  still_readable e inv = sym (ap is_some (bytes_step l text i pair) ∙ some_both _ _ e) ∙ inv
+-- whether a pair of digits is a byte
+abbrev pub is_byte : Letters → List ℕ → Bool
+is_byte l p = is_some (byte_of l (get_or p 0 0) (get_or p 1 0))
 
-  none_both : (o : Option ℕ) (p : Option (List ℕ)) → is_some o ≡ false → is_some (both (λ b bs. b ∷ bs) o p) ≡ false
-  none_both None p e = refl
-  none_both (Some b) p e = absurd (true≢false e)
+both_there : (o : Option ℕ) (p : Option (List ℕ)) → is_some o && is_some p ≡ is_some (both (λ b bs. b ∷ bs) o p)
+both_there None p = refl
+both_there (Some b) None = refl
+both_there (Some b) (Some bs) = refl
 
-  pub not_readable : is_some (byte_of l (get_or text (2 * i) 0) (get_or text (2 * i + 1) 0)) ≡ false
-      → is_some (bytes_of l (drop (2 * i) text)) ≡ is_some (bytes_of l text)
-      → false ≡ is_some (bytes_of l text)
-  not_readable e inv = sym (ap is_some (bytes_step l text i pair) ∙ none_both _ _ e) ∙ inv
+pub all_bytes : (l : Letters) (k : ℕ) (text : List ℕ) → length text ≡ 2 * k → list_all (is_byte l) (first_chunks 2 k text) ≡ is_some (bytes_of l text)
+unfolding bytes_of
+all_bytes l zero [] h = refl
+all_bytes l zero (x ∷ text) h = absurd (omega (arith, h))
+all_bytes l (suc k) [] h = absurd (omega (arith, h))
+all_bytes l (suc k) (x ∷ []) h = absurd (omega (arith, h))
+all_bytes l (suc k) (x ∷ y ∷ rest) h =
+    ap (λ t. is_some (byte_of l x y) && t) (all_bytes l k rest (omega (arith, h))) ∙ both_there (byte_of l x y) (bytes_of l rest)
+
+none_rest : (o : Option ℕ) → both (λ b bs. b ∷ bs) o None ≡ None
+none_rest None = refl
+none_rest (Some b) = refl
+
+pub odd_length : (l : Letters) (text : List ℕ) (k : ℕ) → length text ≡ 2 * k + 1 → bytes_of l text ≡ None
+unfolding bytes_of
+odd_length l [] k h = absurd (omega (arith, h))
+odd_length l (x ∷ []) k h = refl
+odd_length l (x ∷ y ∷ rest) zero h = absurd (omega (arith, h))
+odd_length l (x ∷ y ∷ rest) (suc k) h = ap (both (λ b bs. b ∷ bs) (byte_of l x y)) (odd_length l rest k (omega (arith, h))) ∙ none_rest (byte_of l x y)
 
 -- no pair is left
 pub last_even : (l : Letters) (text : List ℕ) (i : ℕ) → length text ≡ 2 * i → bytes_of l (drop (2 * i) text) ≡ Some []
@@ -107,15 +133,6 @@ unfolding bytes_of
 last_odd l text i h =
     let k : 2 * i < length text = omega (arith, h) in
     at_drop_more (bytes_of l) text (2 * i) 0 k ∙ at_drop_all (λ r. bytes_of l (get_or text (2 * i) 0 ∷ r)) text (2 * i + 1) (omega (arith, h))
-
-pub all_readable : (l : Letters) (text : List ℕ) (i : ℕ) → i ≡ length text / 2
-    → is_some (bytes_of l (drop (2 * i) text)) ≡ is_some (bytes_of l text)
-    → eqb (length text % 2) 0 ≡ is_some (bytes_of l text)
-all_readable l text i e inv =
-    elim (cases_Bool (eqb (length text % 2) 0)) [
-      | inl t ↦ let h : length text ≡ 2 * i = omega (arith, e, eqb-true (length text % 2) 0 t) in t ∙ sym (ap is_some (last_even l text i h)) ∙ inv
-      | inr t ↦ let h : length text ≡ 2 * i + 1 = omega (arith, e, eqb-false (length text % 2) 0 t) in t ∙ sym (ap is_some (last_odd l text i h)) ∙ inv
-    ]
 
 -- all pairs of a block are read
 pub block_read : (l : Letters) (text out : List ℕ) (i : ℕ) → length text ≡ 32 → length out ≡ 16 → i ≡ 16

@@ -1,5 +1,4 @@
 pub mod Splits
-pub mod Handed
 pub mod Digits
 pub mod Numbers
 pub mod InPlace

@@ -1,7 +1,9 @@
 -- Lines and their words. Assumes nothing.
-use Rattle.std.proofs.Common.{◌≡◌, ℕ, suc, ◌+◌, ◌<◌, ◌≤◌, Bool, true, false, cond, eqb, List, [], ◌∷◌, ◌++◌, length, get_or, take, drop, sym, refl, ap, ◌∙◌, inl, inr, le_of_suc-le-suc, not-suc-le-zero, add-one, arith}
-use Rattle.std.proofs.lemmas.List.{drop_more, at_drop_all, length-take}
-use Rattle.std.proofs.lemmas.Bool.{cases_Bool, cond-true, cond-false, eqb-true, eqb-false, ne_eqb, eq-eqb}
+use Rattle.std.proofs.Common.{◌≡◌, ℕ, suc, not, Some, None, ◌+◌, ◌<◌, ◌≤◌, Bool, true, false, cond, eqb, List, [], ◌∷◌, ◌++◌, length, take, drop, sym, refl, ap, ◌∙◌, inl, inr, le_of_suc-le-suc, not-suc-le-zero, add-one, arith}
+use Rattle.std.specs.List.{position, position_or_len}
+use Rattle.std.proofs.lemmas.List.{take_all}
+use Rattle.std.proofs.lemmas.Bool.Decides.{nat_tests}
+use Rattle.std.proofs.lemmas.Bool.{cases_Bool, cond-true, cond-false, eqb-true, eqb-false, ne_eqb}
 use Rattle.text.specs.Words.{space, first_word, later_words, words_of, spaced, joined, Spaceless, EachSpaceless, SplitsAtSpaces}
 
 joins : (line : List ℕ) → joined (words_of line) ≡ line
@@ -56,13 +58,6 @@ follows line n e h = rw (add-one, e) (later_past line (rw e at h))
 pub ends : (line : List ℕ) (n : ℕ) → n ≡ length (first_word line) → length line ≤ n → [] ≡ later_words line
 ends line n e h = sym (later_none line (rw e at h))
 
--- one byte more of the first word, or its end
-pub first_more : (line : List ℕ) (i : ℕ) → i < length line → (get_or line i 0 ≡ space → ⊥) → length (first_word (drop i line)) ≡ suc (length (first_word (drop (i + 1) line)))
-first_more line i h e = rw (drop_more line i 0 h) (ap length (elsewhere (get_or line i 0) (drop (i + 1) line) (ne_eqb (get_or line i 0) space e)).0)
-
-pub first_end : (line : List ℕ) (i : ℕ) → i < length line → get_or line i 0 ≡ space → length (first_word (drop i line)) ≡ 0
-first_end line i h e = rw (drop_more line i 0 h) (ap length (at_space (get_or line i 0) (drop (i + 1) line) (eq-eqb (get_or line i 0) space e)).0)
-
 spaceless_first : (line : List ℕ) → Spaceless (first_word line)
 unfolding first_word
 spaceless_first [] = tt
@@ -94,10 +89,24 @@ pub splits : SplitsAtSpaces
 unfolding words_of
 splits = record { joins = joins; spaceless = λ line. (spaceless_first line, spaceless_later line); only = only }
 
--- no more bytes of the first word
-pub first_all : (line : List ℕ) (i : ℕ) → length line ≤ i → length (first_word (drop i line)) ≡ 0
-unfolding first_word
-first_all line i h = at_drop_all (λ l. length (first_word l)) line i h
+-- the first word ends at the first space, or at the end of the line
+abbrev pub is_space : ℕ → Bool
+is_space b = eqb b space
 
-pub first_within : (line : List ℕ) → length (first_word line) ≤ length line
-first_within line = omega (arith, ap length (first_take line), length-take (length (first_word line)) line)
+first_length : (line : List ℕ) → length (first_word line) ≡ position_or_len is_space line
+unfolding first_word
+first_length [] = refl
+first_length (b ∷ bs) =
+    let P : Bool → Type 0 = λ t. length (cond t [] (b ∷ first_word bs)) ≡ cond (not t) (1 + position_or_len is_space bs) 0 in
+    let e = first_length bs in
+    let at : (t : Bool) → P t = λ t. elim t as P [ true ↦ refl | false ↦ omega (arith, e) ] in
+    at (eqb b space)
+
+pub at_the_first : (line : List ℕ) (n : ℕ) → position is_space line ≡ Some n → (n ≡ length (first_word line)) × (n < length line)
+at_the_first line n e = let h = first_length line in (grind (arith, nat_tests), grind (arith, nat_tests))
+
+pub nowhere : (line : List ℕ) → position is_space line ≡ None → length line ≤ length (first_word line)
+nowhere line e = let h = first_length line in grind (arith, nat_tests)
+
+pub all_of_it : (line : List ℕ) → length line ≤ length (first_word line) → line ≡ first_word line
+all_of_it line h = sym (take_all (length (first_word line)) line h) ∙ first_take line

@@ -1,7 +1,7 @@
 // Bytes and numbers as hexadecimal digits.
 ghost use Rattle.std.specs.Prelude.{◌≡◌, ◌<◌, length, is_some};
 ghost use Rattle.std.specs.Option.{option_map};
-ghost use Rattle.text.specs.Hex.{upper_digit, either_digit, digit_of, byte_of, bytes_of, block_of, in_place, number_of, lower_digit, digits_of, ReadsBack};
+ghost use Rattle.text.specs.Hex.{digit_of, byte_of, bytes_of, block_of, in_place, number_of, lower_digit, digits_of, ReadsBack};
 
 // Which letters are digits.
 #[derive(Clone, Copy, PartialEq, Eq, Debug)]
@@ -13,16 +13,20 @@ pub enum Letters {
 }
 
 // The value of a digit.
+#[tactic(auto, using(crate::proofs::Digits::digit_is, std::proofs::lemmas::Bool::Decides::nat_tests))]
 pub fn digit(letters: Letters, b: u8) -> Option<u8>
     ensures { result ≡ digit_of letters b }
 {
-    match letters {
-        Letters::Upper => upper_digit(b),
-        Letters::Either => either_digit(b),
+    match b {
+        b'0'..=b'9' => Some(b - b'0'),
+        b'A'..=b'F' => Some(b - b'A' + 10),
+        b'a'..=b'f' if matches!(letters, Letters::Either) => Some(b - b'a' + 10),
+        _ => None,
     }
 }
 
 // The byte of two digits.
+#[tactic(auto, using(crate::proofs::Digits::digit_below), unfolding(crate::specs::Hex::byte_of))]
 pub fn byte(letters: Letters, high: u8, low: u8) -> Option<u8>
     ensures { result ≡ byte_of letters high low }
 {
@@ -38,9 +42,10 @@ pub fn block(letters: Letters, text: &[u8]) -> Option<[u8; 16]>
     if text.len() != 32 {
         return None;
     }
+    let (pairs, _) = text.as_chunks::<2>();
     let mut block = [0u8; 16];
-    for i in 0..16 {
-        block[i] = byte(letters, text[2 * i], text[2 * i + 1])?;
+    for (i, [high, low]) in pairs.iter().enumerate() {
+        block[i] = byte(letters, *high, *low)?;
     }
     Some(block)
 }
@@ -49,12 +54,11 @@ pub fn block(letters: Letters, text: &[u8]) -> Option<[u8; 16]>
 pub fn is_bytes(letters: Letters, text: &[u8]) -> bool
     ensures { result ≡ is_some (bytes_of letters text.now) }
 {
-    for i in 0..text.len() / 2 {
-        if byte(letters, text[2 * i], text[2 * i + 1]).is_none() {
-            return false;
-        }
-    }
-    text.len() % 2 == 0
+    let (pairs, odd) = text.as_chunks::<2>();
+    odd.is_empty()
+        && pairs
+            .iter()
+            .all(|[high, low]| byte(letters, *high, *low).is_some())
 }
 
 // Reads an even number of digits where they stand: the bytes that they spell take the place of the first half,
@@ -66,6 +70,7 @@ pub fn decode(letters: Letters, text: &mut [u8]) -> Option<usize>
     if !is_bytes(letters, text) {
         return None;
     }
+    // Counted: a byte is written where digits stood that were read before, in the text that the next are read from.
     let n = text.len() / 2;
     for i in 0..n {
         let b = byte(letters, text[2 * i], text[2 * i + 1])?;
@@ -78,13 +83,12 @@ pub fn decode(letters: Letters, text: &mut [u8]) -> Option<usize>
 pub fn number(letters: Letters, text: &[u8]) -> Option<u128>
     ensures { result ≡ number_of letters text.now }
 {
-    if text.len() < 1 || text.len() > 32 {
+    if text.is_empty() || text.len() > 32 {
         return None;
     }
     let mut n = 0;
     for b in text {
-        let d = digit(letters, *b)?;
-        n = n * 16 + u128::from(d);
+        n = n * 16 + u128::from(digit(letters, *b)?);
     }
     Some(n)
 }
@@ -94,38 +98,17 @@ pub fn lower(block: [u8; 16]) -> [u8; 32]
     ensures { result ≡ digits_of block }
 {
     let mut text = [0u8; 32];
-    for i in 0..16 {
-        text[2 * i] = lower_digit(block[i] / 16);
-        text[2 * i + 1] = lower_digit(block[i] % 16);
+    for (i, b) in block.iter().enumerate() {
+        text[2 * i] = lower_digit(*b / 16);
+        text[2 * i + 1] = lower_digit(*b % 16);
     }
     text
 }
 
 // What is written is read as what it was.
-pub fn digits_read_back() -> u8
+pub fn digits_read_back()
     ensures { ReadsBack }
-{
-    0
-}
-
-fn upper_digit(b: u8) -> Option<u8>
-    ensures { result ≡ upper_digit b }
-{
-    match b {
-        b'0'..=b'9' => Some(b - b'0'),
-        b'A'..=b'F' => Some(b - b'A' + 10),
-        _ => None,
-    }
-}
-
-fn either_digit(b: u8) -> Option<u8>
-    ensures { result ≡ either_digit b }
-{
-    match b {
-        b'a'..=b'f' => Some(b - b'a' + 10),
-        _ => upper_digit(b),
-    }
-}
+{}
 
 // The digit of a value below 16.
 fn lower_digit(n: u8) -> u8

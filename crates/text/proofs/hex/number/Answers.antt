@@ -1,23 +1,25 @@
 use Rattle.std.proofs.Common.{◌≡◌, get_or, Some, ap, ◌∙◌, inl, inr, arith}
+use Rattle.std.proofs.lemmas.Bool.Decides.{nat_tests}
 use Rattle.text.specs.Hex.{digit_of}
 use Rattle.text.proofs.Digits.{digit_below}
 use Rattle.text.proofs.Numbers.{fits, one_more, bound_more, not_a_digit, number_read, too_short, too_long, not_a_number}
 use Rattle.text.proofs.hex.number.Goals as goal
 
-pub returns-then-text-lt1 : goal.returns-then-text-lt1
-returns-then-text-lt1 c =
-    elim c.then-text-lt1.either [ inl h ↦ too_short c.args.letters c.args.text.now h | inr h ↦ too_long c.args.letters c.args.text.now h.1 ]
+pub returns-then-is_empty : goal.returns-then-is_empty
+returns-then-is_empty c =
+    let e = c.is_empty.ensures in
+    elim c.then-is_empty.either [ inl h ↦ too_short c.args.letters c.args.text.now (grind (arith, nat_tests)) | inr h ↦ too_long c.args.letters c.args.text.now h.1 ]
 
-pub returns-in_err-d : goal.returns-in_err-d
-returns-in_err-d c = c.from_residual.ensures
-    ∙ not_a_number c.args.letters c.args.text.now c.if-text-lt1.false c.if-text-gt32.false (not_a_digit c.args.letters c.args.text.now c.loop-b.n c.loop-b.b-index (omega arith) c.loop-b.invariant.0 c.in_err-d.ensures)
+pub returns-in_err-digit : goal.returns-in_err-digit
+returns-in_err-digit c = let e = c.is_empty.ensures in let f = c.if-is_empty.false in c.from_residual.ensures
+    ∙ not_a_number c.args.letters c.args.text.now (grind (arith, nat_tests)) c.if-text-gt32.false (not_a_digit c.args.letters c.args.text.now c.loop-b.n c.loop-b.b-index (omega arith) c.loop-b.invariant.0 c.in_err-digit.ensures)
 
 pub overflow_mul-n : goal.overflow_mul-n
 overflow_mul-n c = omega (arith, fits c.loop-b.n c.loop-b.b-index (omega arith) c.loop-b.invariant.1)
 
 -- the digit that the turn reads
 digit_read : (c : goal.After-from) → Some c.from.result ≡ digit_of c.args.letters (get_or c.args.text.now c.loop-b.b-index 0)
-digit_read c = ap (λ d. Some d) c.from.ensures ∙ c.in_ok-d.ensures
+digit_read c = ap (λ d. Some d) c.from.ensures ∙ c.in_ok-digit.ensures
 
 pub overflow_add-n : goal.overflow_add-n
 overflow_add-n c =
@@ -31,4 +33,5 @@ loop-b-preserved c = (
 
 pub returns : goal.returns
 returns c =
-    number_read c.args.letters c.args.text.now c.loop-b.n c.loop-b.b-index c.if-text-lt1.false c.if-text-gt32.false (omega arith) c.loop-b.invariant.0
+    let e = c.is_empty.ensures in let f = c.if-is_empty.false in
+    number_read c.args.letters c.args.text.now c.loop-b.n c.loop-b.b-index (grind (arith, nat_tests)) c.if-text-gt32.false (omega arith) c.loop-b.invariant.0
