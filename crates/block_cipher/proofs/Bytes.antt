@@ -1,5 +1,5 @@
 -- What the cipher, its tags and its counter blocks give are bytes. Assumes nothing.
-use Rattle.std.proofs.Common.{ℕ, zero, suc, ◌+◌, ◌*◌, ◌/◌, ◌%◌, ◌^◌, ◌<◌, ◌≤◌, List, [], ◌∷◌, ◌++◌, get_or, take, drop, sym, subst, mod-lt, mul-le-mul_left, pow-suc, mul-one, arith, lit<}
+use Rattle.std.proofs.Common.{ℕ, zero, suc, map, ◌+◌, ◌*◌, ◌/◌, ◌%◌, ◌^◌, ◌<◌, ◌≤◌, List, [], ◌∷◌, ◌++◌, get_or, take, drop, sym, subst, mod-lt, mul-le-mul_left, pow-suc, mul-one, arith, lit<}
 use lib.Bits.{bit_xor, xor_lt}
 use Rattle.std.specs.List.{AllByRecursion}
 use Rattle.std.proofs.ByRecursion.{All-append}
@@ -7,7 +7,8 @@ use Rattle.block_cipher.specs.Field.{x_times, affine_bit, from_bits, affine, sbo
 use Rattle.block_cipher.specs.Aes.{block, sub_bytes, shift_rows, xor_block, add_round_key, word, xor_word, sub_word, rot_word, rcon_word, next_round_key, rcon, round_key, rounds, cipher}
 use Rattle.block_cipher.specs.Counter.{counter_block}
 use Rattle.block_cipher.specs.Cmac.{chained, cmac, last_block}
-use Rattle.block_cipher.specs.Words.{quad}
+use Rattle.block_cipher.specs.Words.{quad, bytes_of}
+use Rattle.block_cipher.specs.declared.columns.Columns.{Columns}
 use Rattle.block_cipher.specs.Keyed.{key_of}
 use Rattle.block_cipher.specs.MacKey.{mac_key_of}
 use Rattle.block_cipher.specs.declared.cmac.Cmac.{Cmac}
@@ -15,11 +16,11 @@ use Rattle.block_cipher.specs.declared.cmac.Cmac.{Cmac}
 abbrev pub Bytes : List ℕ → Type 0
 Bytes xs = AllByRecursion (λ x. x < 256) xs
 
-xor_byte : (a b : ℕ) → a < 256 → b < 256 → bit_xor a b < 256
+pub xor_byte : (a b : ℕ) → a < 256 → b < 256 → bit_xor a b < 256
 xor_byte a b ha hb = xor_lt 8 a b ha hb
 
 -- a byte of bytes, and 0 past their end
-at : (xs : List ℕ) (k : ℕ) → Bytes xs → get_or xs k 0 < 256
+pub at : (xs : List ℕ) (k : ℕ) → Bytes xs → get_or xs k 0 < 256
 at [] k h = lit< tt
 at (x ∷ xs) zero h = h.0
 at (x ∷ xs) (suc k) h = at xs k h.1
@@ -37,7 +38,7 @@ sbox_byte : (b : ℕ) → sbox b < 256
 unfolding sbox affine affine_bit
 sbox_byte b = from_bits_lem 8 (λ i. affine_bit (inverse b) i) (λ i. mod-lt _ (lit< tt))
 
-sixteen : (f : ℕ → ℕ) → ((k : ℕ) → f k < 256) → Bytes (block f)
+pub sixteen : (f : ℕ → ℕ) → ((k : ℕ) → f k < 256) → Bytes (block f)
 sixteen f h = (h 0, (h 1, (h 2, (h 3, (h 4, (h 5, (h 6, (h 7, (h 8, (h 9, (h 10, (h 11, (h 12, (h 13, (h 14, (h 15, tt))))))))))))))))
 
 word_bytes : (w : List ℕ) (i : ℕ) → Bytes w → Bytes (word w i)
@@ -110,9 +111,12 @@ cmac_bytes key m h = chained_bytes key _ _ m h
 quad_bytes : (w : ℕ) → Bytes (quad w)
 quad_bytes w = (mod-lt w (lit< tt), (mod-lt (w / 256) (lit< tt), (mod-lt (w / 65536) (lit< tt), (mod-lt (w / 16777216) (lit< tt), tt))))
 
+first_bytes : (ks : List Columns) → Bytes (get_or (map bytes_of ks) 0 [])
+first_bytes [] = tt
+first_bytes (s ∷ ks) =
+    let P : ℕ → Type 0 = λ x. x < 256 in
+    All-append P (quad s.a) (quad s.b ++ (quad s.c ++ quad s.d)) (quad_bytes s.a) (All-append P (quad s.b) (quad s.c ++ quad s.d) (quad_bytes s.b) (All-append P (quad s.c) (quad s.d) (quad_bytes s.c) (quad_bytes s.d)))
+
 pub mac_key_bytes : (m : Cmac) → Bytes (mac_key_of m)
 unfolding mac_key_of key_of
-mac_key_bytes m =
-    let P : ℕ → Type 0 = λ x. x < 256 in
-    let s = m.cipher.key in
-    All-append P (quad s.a) (quad s.b ++ (quad s.c ++ quad s.d)) (quad_bytes s.a) (All-append P (quad s.b) (quad s.c ++ quad s.d) (quad_bytes s.b) (All-append P (quad s.c) (quad s.d) (quad_bytes s.c) (quad_bytes s.d)))
+mac_key_bytes m = first_bytes m.cipher.round_keys

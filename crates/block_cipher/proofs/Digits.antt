@@ -1,12 +1,14 @@
 -- Blocks as numbers: bytes lowest first and highest first, in words and whole. Assumes nothing.
-use Rattle.std.proofs.Common.{◌≡◌, ℕ, ◌+◌, ◌*◌, ◌/◌, ◌%◌, ◌^◌, ◌<◌, List, [], ◌∷◌, ◌++◌, length, get_or, replicate, sym, refl, ap, ◌∙◌, mod-eq_of_lt, div-one, arith, lit<}
+use Rattle.std.proofs.Common.{◌≡◌, ℕ, ◌+◌, ◌-◌, ◌*◌, ◌/◌, ◌%◌, ◌^◌, ◌<◌, List, [], ◌∷◌, ◌++◌, length, get_or, replicate, sym, refl, ap, ◌∙◌, mod-eq_of_lt, div-one, arith, lit<}
 use lib.Bits.{bit_and, bit_xor, and_mask, xor_shr, xor_mod}
 use borrow.Rule.Slice.PartMut.{put_mid}
+use Rattle.std.specs.Int.{w128, from_le_bytes, to_be_bytes, swap_bytes}
 use Rattle.std.proofs.lemmas.Nat.{field_of, mod-pow-add, mod-mul-add, div-mul-add, mod_below, shr-shr}
 use Rattle.block_cipher.specs.Aes.{block, xor_block, cipher}
 use Rattle.block_cipher.specs.Counter.{number, bytes16, counter_block}
 use Rattle.block_cipher.specs.Words.{quad, little16}
-use Rattle.block_cipher.proofs.Quads.{whole, word_of, join4}
+use Rattle.block_cipher.proofs.Quads.{whole, word_of, join4, quad_word}
+use Rattle.block_cipher.proofs.Bytes.{at, sixteen}
 
 -- what `from_be_bytes` answers
 abbrev pub sum16 : List ℕ → ℕ
@@ -59,6 +61,20 @@ module _ (a m n : ℕ) (h : a < 4294967296) (e : n ≡ m * 4294967296 + a) where
   rest : n / 2 ^ 32 ≡ m
   rest = ap (λ x. x / 4294967296) e ∙ div-mul-add m 4294967296 a h
 
+of_words : (n a b c d : ℕ) → a < 2 ^ 32 → b < 2 ^ 32 → c < 2 ^ 32 → d < 2 ^ 32
+    → n ≡ a + b * 2 ^ 32 + c * 2 ^ 64 + d * 2 ^ 96
+    → little16 n ≡ quad a ++ (quad b ++ (quad c ++ quad d))
+of_words n a b c d ha hb hc hd e =
+    let m2 = d * 4294967296 + c in
+    let m1 = m2 * 4294967296 + b in
+    let en : n ≡ m1 * 4294967296 + a = omega (arith, e) in
+    let r1 : n / 2 ^ 32 ≡ m1 = rest a m1 n ha en in
+    let r2 : n / 2 ^ 64 ≡ m2 = sym (shr-shr n 32 32) ∙ (ap (λ x. x / 2 ^ 32) r1 ∙ rest b m2 m1 hb refl) in
+    let r3 : n / 2 ^ 96 ≡ d = sym (shr-shr n 64 32) ∙ (ap (λ x. x / 2 ^ 32) r2 ∙ rest c d m2 hc refl) in
+    sym (parts n)
+    ∙ join4 (ap quad (low a m1 n ha en)) (ap quad (low b m2 (n / 2 ^ 32) hb r1)) (ap quad (low c d (n / 2 ^ 64) hc r2)) (ap quad (ap (λ x. x % 4294967296) r3 ∙ mod-eq_of_lt hd))
+
+-- the number of columns
 pub join_is : (n a b c d : ℕ) → a < 2 ^ 32 → b < 2 ^ 32 → c < 2 ^ 32 → d < 2 ^ 32
     → n ≡ a + b * 2 ^ 32 % 2 ^ 128 + c * 2 ^ 64 % 2 ^ 128 + d * 2 ^ 96 % 2 ^ 128
     → little16 n ≡ quad a ++ (quad b ++ (quad c ++ quad d))
@@ -66,35 +82,32 @@ join_is n a b c d ha hb hc hd e =
     let fb : b * 2 ^ 32 % 2 ^ 128 ≡ b * 2 ^ 32 = mod-eq_of_lt (omega arith) in
     let fc : c * 2 ^ 64 % 2 ^ 128 ≡ c * 2 ^ 64 = mod-eq_of_lt (omega arith) in
     let fd : d * 2 ^ 96 % 2 ^ 128 ≡ d * 2 ^ 96 = mod-eq_of_lt (omega arith) in
-    let m2 = d * 4294967296 + c in
-    let m1 = m2 * 4294967296 + b in
-    let en : n ≡ m1 * 4294967296 + a = omega (arith, e, fb, fc, fd) in
-    let r1 : n / 2 ^ 32 ≡ m1 = rest a m1 n ha en in
-    let r2 : n / 2 ^ 64 ≡ m2 = sym (shr-shr n 32 32) ∙ (ap (λ x. x / 2 ^ 32) r1 ∙ rest b m2 m1 hb refl) in
-    let r3 : n / 2 ^ 96 ≡ d = sym (shr-shr n 64 32) ∙ (ap (λ x. x / 2 ^ 32) r2 ∙ rest c d m2 hc refl) in
-    sym (parts n)
-    ∙ join4 (ap quad (low a m1 n ha en)) (ap quad (low b m2 (n / 2 ^ 32) hb r1)) (ap quad (low c d (n / 2 ^ 64) hc r2)) (ap quad (ap (λ x. x % 4294967296) r3 ∙ mod-eq_of_lt hd))
+    of_words n a b c d ha hb hc hd (omega (arith, e, fb, fc, fd))
 
--- the four bytes of m modulo 2^32, the first byte highest
-abbrev high : ℕ → List ℕ
-high m = (m / 16777216 % 256) ∷ (m / 65536 % 256) ∷ (m / 256 % 256) ∷ (m % 256) ∷ []
+-- `from_le_bytes` of a block
+pub loaded : (xs : List ℕ) (n : ℕ) → length xs ≡ 16 → ((i : ℕ) → get_or xs i 0 < 256) → n ≡ from_le_bytes w128 xs → little16 n ≡ xs
+loaded xs n h below e =
+    let at : ℕ → ℕ = λ k. get_or xs k 0 in
+    let w : ℕ → ℕ = λ k. at k + at (k + 1) * 256 + at (k + 2) * 65536 + at (k + 3) * 16777216 in
+    of_words n (w 0) (w 4) (w 8) (w 12)
+    (omega (arith, below 0, below 1, below 2, below 3)) (omega (arith, below 4, below 5, below 6, below 7))
+    (omega (arith, below 8, below 9, below 10, below 11)) (omega (arith, below 12, below 13, below 14, below 15))
+    (omega (arith, e))
+    ∙ join4 (quad_word (at 0) (at 1) (at 2) (at 3) (below 0) (below 1) (below 2) (below 3))
+    (quad_word (at 4) (at 5) (at 6) (at 7) (below 4) (below 5) (below 6) (below 7))
+    (quad_word (at 8) (at 9) (at 10) (at 11) (below 8) (below 9) (below 10) (below 11))
+    (quad_word (at 12) (at 13) (at 14) (at 15) (below 12) (below 13) (below 14) (below 15))
+    ∙ whole xs h
 
-high_low : (m : ℕ) → high (m % 4294967296) ≡ high m
-high_low m = word_of refl (digit m 0 24) (digit m 8 16) (digit m 16 8) (digit_first m)
+-- `to_be_bytes`
+pub stored_high : (n : ℕ) → to_be_bytes w128 n ≡ bytes16 n
+stored_high n = cc (ap (λ m. m % 256) (sym (div-one n)))
 
-pub swapped_is : (n a b c d : ℕ)
-    → quad a ≡ high (bit_and (n / 2 ^ 96) 4294967295)
-    → quad b ≡ high (bit_and (n / 2 ^ 64) 4294967295)
-    → quad c ≡ high (bit_and (n / 2 ^ 32) 4294967295)
-    → quad d ≡ high (bit_and n 4294967295)
-    → quad a ++ (quad b ++ (quad c ++ quad d)) ≡ bytes16 n
-swapped_is n a b c d ea eb ec ed =
-    let whole_word : (w m : ℕ) → quad w ≡ high (bit_and m 4294967295) → quad w ≡ high m = λ w m e. e ∙ ap high (and_mask m 32) ∙ high_low m in
-    let part : (s k : ℕ) → n / 2 ^ s / 2 ^ k % 256 ≡ n / 2 ^ (s + k) % 256 = λ s k. ap (λ m. m % 256) (shr-shr n s k) in
-    join4 (word_of (whole_word a (n / 2 ^ 96) ea) (part 96 24) (part 96 16) (part 96 8) refl)
-    (word_of (whole_word b (n / 2 ^ 64) eb) (part 64 24) (part 64 16) (part 64 8) refl)
-    (word_of (whole_word c (n / 2 ^ 32) ec) (part 32 24) (part 32 16) (part 32 8) refl)
-    (word_of (whole_word d n ed) refl refl refl (ap (λ m. m % 256) (sym (div-one n))))
+-- `swap_bytes`
+pub swapped : (n m : ℕ) → m ≡ swap_bytes w128 n → little16 m ≡ bytes16 n
+swapped n m e =
+    let one = div-one n in
+    loaded (bytes16 n) m refl (λ i. at (bytes16 n) i (sixteen (λ k. n / 256 ^ (15 - k) % 256) (λ k. mod_below (n / 256 ^ (15 - k)) 256 (lit< tt)))) (omega (arith, e, one))
 
 -- what `to_le_bytes` answers for half of a block
 abbrev eight : ℕ → List ℕ

@@ -1,17 +1,17 @@
 -- The tables' rules and the inverse, each by one computed test and a lemma that gives it at each entry.
 -- Assumes nothing.
-use Rattle.std.proofs.Common.{◌≡◌, ℕ, zero, suc, ◌/◌, ◌%◌, ◌<◌, Bool, ◌&&◌, T, eqb, List, [], ◌∷◌, length, get_or, arith, eqb→eq}
+use Rattle.std.proofs.Common.{◌≡◌, ℕ, zero, suc, ◌/◌, ◌%◌, ◌<◌, Bool, ◌&&◌, T, eqb, List, [], ◌∷◌, length, get_or, arith, eqb→eq, refl, ◌∙◌}
 use Rattle.block_cipher.specs.Field.{x_times, mul_low, mul, square, squares, inverse, sbox, Inverts}
-use Rattle.block_cipher.specs.Words.{entry, quad}
+use Rattle.block_cipher.specs.Words.{quad, turned}
+use Rattle.block_cipher.proofs.Quads.{adds}
 use Rattle.block_cipher.proofs.Entries.{every, at, all_below, below, both_left, both_right}
 
 -- an entry of the S-box
 abbrev pub substitutes : ℕ → ℕ → Bool
 substitutes k x = eqb x (sbox k)
 
-pub substituted : (table : List ℕ) → length table ≡ 256 → T (every substitutes 0 table) → (k : ℕ) → k < 256 → entry table k ≡ sbox k
-unfolding entry
-substituted table e t k h = eqb→eq (get_or table k 0) (sbox k) (at substitutes table t k (rw e h))
+pub substituted : (table : List ℕ) → length table ≡ 256 → T (every substitutes 0 table) → (k : ℕ) → k < 256 → get_or table k 0 ≡ sbox k
+substituted table e t k h = eqb→eq (get_or table k 0) (sbox k) (at substitutes table 0 t k (rw e h))
 
 -- a word has these four bytes
 abbrev holds : ℕ → ℕ → ℕ → ℕ → ℕ → Bool
@@ -27,24 +27,25 @@ holds_quad w a b c d t =
     let e3 = eqb→eq (w / 16777216 % 256) d (both_right (eqb (w / 65536 % 256) c) _ t2) in
     cc
 
--- an entry of a row's table: the bytes a, b, c and d of the S-box's answer
-module _ (a b c d : ℕ → ℕ) where
-  abbrev pub mixes : ℕ → ℕ → Bool
-  mixes k w = holds w (a (sbox k)) (b (sbox k)) (c (sbox k)) (d (sbox k))
+-- an entry of the table of row r
+abbrev pub mixes : ℕ → ℕ → ℕ → Bool
+mixes r k w = let l = turned r (adds (sbox k)) in holds w (get_or l 0 0) (get_or l 1 0) (get_or l 2 0) (get_or l 3 0)
 
-  pub mixed_by : (table : List ℕ) → length table ≡ 256 → T (every mixes 0 table) → (k : ℕ) → k < 256 → quad (entry table k) ≡ a (sbox k) ∷ b (sbox k) ∷ c (sbox k) ∷ d (sbox k) ∷ []
-  unfolding entry
-  mixed_by table e t k h = holds_quad (get_or table k 0) (a (sbox k)) (b (sbox k)) (c (sbox k)) (d (sbox k)) (at mixes table t k (rw e h))
+-- the table of row r
+abbrev pub row_mixes : ℕ → List ℕ → Bool
+row_mixes r table = eqb (length table) 256 && every (mixes r) 0 table
 
--- one, two and three times a byte
-abbrev pub once : ℕ → ℕ
-once x = x
+four : (r x : ℕ) → (let l = turned r (adds x) in get_or l 0 0 ∷ get_or l 1 0 ∷ get_or l 2 0 ∷ get_or l 3 0 ∷ []) ≡ turned r (adds x)
+four zero x = refl
+four (suc r) x = refl
 
-abbrev pub twice : ℕ → ℕ
-twice x = mul x 2
-
-abbrev pub thrice : ℕ → ℕ
-thrice x = mul x 3
+pub mixed : (tables : List (List ℕ)) → length tables ≡ 4 → T (every row_mixes 0 tables) → (r k : ℕ) → r < 4 → k < 256 → quad (get_or (get_or tables r []) k 0) ≡ turned r (adds (sbox k))
+mixed tables e t r k hr hk =
+    let table = get_or tables r [] in
+    let row = at row_mixes tables [] t r (rw e hr) in
+    let long : length table ≡ 256 = eqb→eq (length table) 256 (both_left (eqb (length table) 256) (every (mixes r) 0 table) row) in
+    let entry = at (mixes r) table 0 (both_right (eqb (length table) 256) (every (mixes r) 0 table) row) k (rw long hk) in
+    holds_quad (get_or table k 0) _ _ _ _ entry ∙ four r (sbox k)
 
 -- the inverse, at b + 1
 abbrev inverts : ℕ → Bool

@@ -1,7 +1,7 @@
 pub mod Entries
-pub mod Fields
 pub mod Quads
+pub mod Fields
 pub mod Schedule
+pub mod Bytes
 pub mod Digits
 pub mod Macs
-pub mod Bytes

@@ -1,6 +1,7 @@
 -- CMAC: the subkeys, the last block, and the chain over the blocks before it. Assumes nothing.
-use Rattle.std.proofs.Common.{◌≡◌, ℕ, suc, ◌+◌, ◌-◌, ◌*◌, ◌/◌, ◌%◌, ◌^◌, ◌<◌, ◌≤◌, eqb, ltb, List, ◌∷◌, ◌++◌, length, take, drop, set, replicate, sym, refl, ap, ◌∙◌, arith}
+use Rattle.std.proofs.Common.{◌≡◌, ℕ, zero, suc, get_or, ◌+◌, ◌-◌, ◌*◌, ◌/◌, ◌%◌, ◌^◌, ◌<◌, ◌≤◌, eqb, ltb, List, ◌∷◌, ◌++◌, length, take, drop, set, replicate, sym, refl, ap, ◌∙◌, arith}
 use lib.Bits.{bit_xor}
+use Rattle.std.specs.Simd.{first_chunks}
 use Rattle.std.proofs.lemmas.List.{set_at, drop-replicate, drop-drop}
 use Rattle.std.proofs.lemmas.Bool.{cond-true, cond-false, lt-ltb, le-ltb, eq-eqb, ne_eqb}
 use Rattle.block_cipher.specs.Aes.{xor_block, cipher}
@@ -33,6 +34,14 @@ module _ (key k1 k2 rest : List ℕ) (first : k1 ≡ subkey1 key) (second : k2 �
   unfolding last_block
   last_padded b out h eb eo =
       eo ∙ ap (xor_block k2) eb ∙ ap (λ k. xor_block k (padded rest)) second ∙ sym (cond-false (eqb (length rest) 16) _ _ (ne_eqb (length rest) 16 h))
+
+-- a block of the message, as `as_chunks` parts it
+pub chunk_at : (m : List ℕ) (n k i : ℕ) (d : List ℕ) → i < n → n ≤ k → get_or (take n (first_chunks 16 k m)) i d ≡ take 16 (drop (16 * i) m)
+chunk_at m zero k i d h l = absurd (omega (arith, h))
+chunk_at m (suc n) zero i d h l = absurd (omega (arith, l))
+chunk_at m (suc n) (suc k) zero d h l = refl
+chunk_at m (suc n) (suc k) (suc i) d h l =
+    chunk_at (drop 16 m) n k i d (omega (arith, h)) (omega (arith, l)) ∙ ap (take 16) (drop-drop (16 * i) 16 m ∙ ap (λ j. drop j m) (omega arith))
 
 -- one block of the chain
 pub chain_more : (key m c b x out : List ℕ) (n i : ℕ) → i < n → b ≡ take 16 (drop (16 * i) m) → x ≡ xor_block c b → out ≡ cipher key x

@@ -3,7 +3,7 @@ use Rattle.std.proofs.Common.{◌≡◌, ℕ, zero, suc, ◌+◌, ◌*◌, ◌/�
 use lib.Bits.{bit_xor, xor_zero_r, xor_shr, xor_mod, xor_assoc, xor_comm}
 use Rattle.block_cipher.specs.Field.{mul, sbox}
 use Rattle.block_cipher.specs.Aes.{block, mix_row, xor_word, sub_word, rot_word, rcon_word}
-use Rattle.block_cipher.specs.Words.{quad}
+use Rattle.block_cipher.specs.Words.{quad, around}
 
 cons4 : {a b c d e f g h : ℕ} → a ≡ e → b ≡ f → c ≡ g → d ≡ h → ◌≡◌ {A = List ℕ} (a ∷ b ∷ c ∷ d ∷ []) (e ∷ f ∷ g ∷ h ∷ [])
 cons4 p q r s = cc
@@ -16,10 +16,6 @@ quad_xor v w =
 
 pub quad_word : (a b c d : ℕ) → a < 256 → b < 256 → c < 256 → d < 256 → quad (a + b * 256 + c * 65536 + d * 16777216) ≡ a ∷ b ∷ c ∷ d ∷ []
 quad_word a b c d ha hb hc hd = cons4 (omega arith) (omega arith) (omega arith) (omega arith)
-
--- the last byte comes first
-abbrev pub around : List ℕ → List ℕ
-around w = get_or w 3 0 ∷ get_or w 0 0 ∷ get_or w 1 0 ∷ get_or w 2 0 ∷ []
 
 -- the same sum from the second term on
 from_second : (a b c d : ℕ) → bit_xor (bit_xor (bit_xor a b) c) d ≡ bit_xor (bit_xor (bit_xor b c) d) a

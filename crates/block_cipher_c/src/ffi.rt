@@ -26,16 +26,14 @@ pub extern "C" fn block_cipher_aes128(key: &Block) -> Aes128
 pub extern "C" fn block_cipher_encrypt(aes: &Aes128, block: &mut Block)
     ensures { block.new.bytes ≡ cipher (key_of aes.now) block.old.bytes }
 {
-    let bytes = aes.encrypt(block.bytes);
-    block.bytes = bytes;
+    block.bytes = aes.encrypt(block.bytes);
 }
 
 #[unsafe(no_mangle)]
 pub extern "C" fn block_cipher_counter(aes: &Aes128, iv: &Block, i: u64, block: &mut Block)
     ensures { block.new.bytes ≡ counter_block (key_of aes.now) iv.now.bytes i }
 {
-    let bytes = aes.counter_block(iv.bytes, u128::from(i));
-    block.bytes = bytes;
+    block.bytes = aes.counter_block(iv.bytes, u128::from(i));
 }
 
 #[unsafe(no_mangle)]
@@ -49,6 +47,5 @@ pub extern "C" fn block_cipher_cmac(key: &Block) -> Cmac
 pub extern "C" fn block_cipher_tag(mac: &Cmac, message: &[u8], tag: &mut Block)
     ensures { tag.new.bytes ≡ cmac (mac_key_of mac.now) message.now }
 {
-    let bytes = mac.tag(message);
-    tag.bytes = bytes;
+    tag.bytes = mac.tag(message);
 }

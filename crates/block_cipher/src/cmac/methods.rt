@@ -7,7 +7,7 @@ ghost use Rattle.block_cipher.specs.Words.{little16};
 
 use crate::aes::Aes128;
 use crate::cmac::Cmac;
-use crate::numbers::{load, store, swapped};
+use crate::numbers::{load, store};
 
 impl Cmac {
     // The subkeys of a key.
@@ -25,11 +25,10 @@ impl Cmac {
         ensures { result ≡ cmac (mac_key_of self.now) message.now }
     {
         let before = message.len().saturating_sub(1) / 16;
+        let (blocks, _) = message.as_chunks::<16>();
         let mut chain = 0u128;
-        for i in 0..before {
-            let block = load(block_of(&message[16 * i..16 * i + 16]));
-            let next = self.cipher.encrypt_number(chain ^ block);
-            chain = next;
+        for block in &blocks[..before] {
+            chain = self.cipher.encrypt_number(chain ^ load(*block));
         }
         let last = self.last_block(&message[16 * before..]);
         store(self.cipher.encrypt_number(chain ^ last))
@@ -40,20 +39,11 @@ impl Cmac {
         requires { length rest.now ≤ 16 }
         ensures { little16 result ≡ last_block (mac_key_of self.now) rest.now }
     {
-        if rest.len() == 16 {
-            return load(self.k1) ^ load(block_of(rest));
+        match rest.first_chunk() {
+            Some(block) => load(self.k1) ^ load(*block),
+            None => load(self.k2) ^ load(pad(rest)),
         }
-        load(self.k2) ^ load(pad(rest))
     }
-}
-
-fn block_of(s: &[u8]) -> [u8; 16]
-    requires { length s.now ≡ 16 }
-    ensures { result ≡ s.now }
-{
-    let mut block = [0u8; 16];
-    block.copy_from_slice(s);
-    block
 }
 
 // A 1 bit after the message's last part, and zeros.
@@ -79,5 +69,5 @@ fn double(x: [u8; 16]) -> [u8; 16]
     } else {
         shifted ^ 0x87
     };
-    store(swapped(reduced))
+    reduced.to_be_bytes()
 }

@@ -1,7 +1,6 @@
-use Rattle.std.proofs.Common.{◌∙◌, rules}
-use Rattle.block_cipher.proofs.Quads.{whole, join4}
+use Rattle.std.proofs.Common.{rules}
+use Rattle.block_cipher.proofs.Digits.{loaded}
 use Rattle.block_cipher.proofs.numbers.load.Goals as goal
 
 pub returns : goal.returns
-returns c =
-    c.join.ensures ∙ (join4 c.word.ensures c.word-2.ensures c.word-3.ensures c.word-4.ensures ∙ whole c.args.block (search rules))
+returns c = loaded c.args.block _ (search rules) (search rules) c.from_le_bytes.ensures

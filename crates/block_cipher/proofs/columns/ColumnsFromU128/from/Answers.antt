@@ -1,5 +1,5 @@
 use Rattle.block_cipher.proofs.Digits.{split_is}
-use Rattle.block_cipher.proofs.numbers.split.Goals as goal
+use Rattle.block_cipher.proofs.columns.ColumnsFromU128.from.Goals as goal
 
 pub returns : goal.returns
 returns c = split_is c.args.n

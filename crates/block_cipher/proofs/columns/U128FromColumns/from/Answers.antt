@@ -1,6 +1,6 @@
 use Rattle.std.proofs.Common.{rules}
 use Rattle.block_cipher.proofs.Digits.{join_is}
-use Rattle.block_cipher.proofs.numbers.join.Goals as goal
+use Rattle.block_cipher.proofs.columns.U128FromColumns.from.Goals as goal
 
 pub returns : goal.returns
 returns c =

@@ -1,7 +1,0 @@
-use Rattle.std.proofs.Common.{refl}
-use Rattle.block_cipher.specs.Words.{entry}
-use Rattle.block_cipher.proofs.tables.byte_at.Goals as goal
-
-pub returns : goal.returns
-unfolding entry
-returns c = refl
