@@ -1,28 +1,46 @@
 -- Reading the text of a shape, part by part. Assumes nothing.
-use Rattle.std.proofs.Common.{◌≡◌, ℕ, ◌+◌, ◌-◌, ◌*◌, ◌/◌, ◌%◌, ◌<◌, ◌≤◌, cond, ◌&&◌, eqb, ltb, leb, List, [], ◌∷◌, ◌++◌, length, get_or, take, drop, Some, None, Ok, Err, Option, sym, refl, ap, ◌∙◌, subst, inl, inr, arith, take_all}
+use Rattle.std.proofs.Common.{◌≡◌, ℕ, zero, suc, ◌+◌, ◌-◌, ◌*◌, ◌/◌, ◌%◌, ◌^◌, ◌<◌, ◌≤◌, cond, ◌&&◌, eqb, ltb, leb, List, [], ◌∷◌, ◌++◌, length, get_or, drop, Some, None, Ok, Err, Option, sym, refl, ap, ◌∙◌, subst, inl, inr, add-zero, arith}
 use Rattle.std.proofs.lemmas.Bool.{cases_Bool, cond-true, cond-false, and_parts, and_from, eqb-true, eqb-false, ne_eqb, leb-true, le-leb, ltb-true}
 use Rattle.alphabets.specs.declared.alphabet.Alphabet.{Alphabet}
 use Rattle.faults.specs.declared.fault.Cause.TheVariants.{ShapeText, Rounds}
-use Rattle.alphabets.specs.Alphabets.{letter_of, alphabet_of}
+use Rattle.alphabets.specs.Alphabets.{symbol_of, letter_of, alphabet_of}
 use Rattle.faults.specs.Faults.{own}
 use Rattle.formats.specs.Forms.{Form, Exists, form_of, default_rounds, remade, made}
 use Rattle.formats.specs.LeastRounds.{least, tabled, column_below, column_above}
 use Rattle.formats.specs.ShapeLaws.{Spelled, Spells, ReadsExactly, Examples}
-use Rattle.formats.specs.ShapeTexts.{Parts, gathered, parts_of, digit, digit_of, followed, two_digits, three_digits, named, named_rounds, stem, tail, answered, read_form, text_of}
+use Rattle.formats.specs.ShapeTexts.{Parts, gathered, parts_of, digit, digit_of, followed, two_digits, three_digits, number_after, named, named_rounds, stem, tail, answered, read_form, text_of}
 use Rattle.formats.proofs.Limits.{bounded, none_at_one}
-use Rattle.alphabets.proofs.Symbols.{own_letter, only_letter}
+use Rattle.std.specs.Option.{option_and_then}
+use Rattle.std.proofs.lemmas.List.{at_drop_more}
+use Rattle.alphabets.specs.declared.alphabet.Alphabet.TheVariants.{Decimal}
+use Rattle.alphabets.proofs.Symbols.{symbol_by_spans, own_letter, only_letter}
 use Rattle.faults.proofs.Variants.{none≢some, err≢ok, same_some}
 
 gathered_by : {letter : Option Alphabet} {two : Option ℕ} {rest : Option (Option ℕ)} (a : Alphabet) (n : ℕ) (r : Option ℕ) → Some a ≡ letter → Some n ≡ two → Some r ≡ rest → ◌≡◌ {A = Option Parts} (Some (a, n, r)) (gathered letter two rest)
 gathered_by {letter} {two} {rest} a n r e h k =
     ap (λ o. gathered o (Some n) (Some r)) e ∙ ap (λ o. gathered letter o (Some r)) h ∙ ap (λ o. gathered letter two o) k
 
-pub parts_by : (text : List ℕ) (a : Alphabet) (n : ℕ) (r : Option ℕ) → 3 ≤ length text → Some a ≡ alphabet_of (get_or text 0 0) → Some n ≡ two_digits (get_or text 1 0) (get_or text 2 0) → Some r ≡ named_rounds (take (length text - 3) (drop 3 text)) → ◌≡◌ {A = Option Parts} (Some (a, n, r)) (parts_of text)
-parts_by [] a n r h i j k = let none : ⊥ = omega arith in absurd none
-parts_by (x ∷ []) a n r h i j k = let none : ⊥ = omega arith in absurd none
-parts_by (x ∷ y ∷ []) a n r h i j k = let none : ⊥ = omega arith in absurd none
-parts_by (x ∷ y ∷ z ∷ rest) a n r h i j k =
-    gathered_by a n r i j (k ∙ ap named_rounds (take_all (length (x ∷ y ∷ z ∷ rest) - 3) rest (omega arith)))
+-- a digit is a symbol of the decimal alphabet
+pub symbol_is_digit : (b : ℕ) → b < 256 → symbol_of Decimal b ≡ digit_of b
+symbol_is_digit b h =
+    sym (symbol_by_spans Decimal b h) ∙ ap (λ n. cond (leb 48 b && leb b 57) (Some n) None) (add-zero (b - 48))
+
+-- one more digit of a number, or none where another byte stands
+pub digit_more : (n d i : ℕ) (bs : List ℕ) → i < length bs → Some d ≡ digit_of (get_or bs i 0) → number_after n (drop i bs) ≡ number_after (10 * n + d) (drop (i + 1) bs)
+digit_more n d i bs h e =
+    at_drop_more (number_after n) bs i 0 h ∙ ap (option_and_then (λ x. number_after (10 * n + x) (drop (i + 1) bs))) (sym e)
+
+pub no_digit : (n i : ℕ) (bs : List ℕ) → i < length bs → None ≡ digit_of (get_or bs i 0) → None ≡ number_after n (drop i bs)
+no_digit n i bs h e =
+    ap (option_and_then (λ x. number_after (10 * n + x) (drop (i + 1) bs))) e ∙ sym (at_drop_more (number_after n) bs i 0 h)
+
+-- below the power of ten, for as many digits
+pub small_number : (n k : ℕ) → k ≤ 3 → (k ≤ 0 → n < 1) → (k ≤ 1 → n < 10) → (k ≤ 2 → n < 100) → n < 1000 → n < 10 ^ k
+small_number n zero h none one two three = none (omega arith)
+small_number n (suc zero) h none one two three = one (omega arith)
+small_number n (suc (suc zero)) h none one two three = two (omega arith)
+small_number n (suc (suc (suc zero))) h none one two three = three
+small_number n (suc (suc (suc (suc k)))) h none one two three = let never : ⊥ = omega arith in absurd never
 
 -- a digit
 digit_is : (b d : ℕ) → digit_of b ≡ Some d → (b ≡ digit d) × (d < 10)

@@ -5,11 +5,13 @@
 --   default_rounds           the rounds where none are named
 --   layers_of                the layers that the rounds make: a layer for each symbol in each round
 --   most_layers              the most layers that a length may have
+--   code_count               how many codes there are
+--   counted                  the same number, where it is not above the most that is asked for
 --   Exists                   the limits, all kept
 --   length_fits, rounds_fit  the tests of them
 --   remade                   the answer to a form's three parts
 --   made                     the answer to an alphabet, a length and rounds that may be named
-use Rattle.std.specs.Prelude.{◌≡◌, ℕ, ◌*◌, ◌≤◌, Bool, cond, ◌&&◌, Some, None, Ok, Err, Option, Result, ◌==◌, nat_le}
+use Rattle.std.specs.Prelude.{◌≡◌, ℕ, ◌*◌, ◌^◌, ◌≤◌, Bool, cond, ◌&&◌, Some, None, Ok, Err, Option, Result, ◌==◌, nat_le}
 use Rattle.alphabets.specs.declared.alphabet.Alphabet.{Alphabet}
 use Rattle.faults.specs.declared.fault.Cause.TheVariants.{Length, Rounds}
 use Rattle.faults.specs.declared.fault.Fault.{Fault}
@@ -37,6 +39,13 @@ layers_of f = f.rounds * f.len
 -- a code of one symbol has no layers
 abbrev pub most_layers : ℕ → ℕ
 most_layers n = cond (n == 1) 0 2048
+
+-- each of the symbols at each place
+unfoldable pub code_count : Form → ℕ
+code_count f = radix_of f.alphabet ^ f.len
+
+abbrev pub counted : Form → ℕ → Option ℕ
+counted f most = cond (nat_le (code_count f) most) (Some (code_count f)) None
 
 pub record Exists (f : Form) : Type 0 where
   -- a length from 1 to 32

@@ -1,11 +1,13 @@
 -- Texts of shapes: a letter, two digits for the length and, if wanted, a slash and three digits for the rounds. Assumes nothing.
 --   digit_of                  the number that a digit writes
 --   two_digits, three_digits  the number that some digits write
+--   number_of                 the number that any digits write
 --   named_rounds              the rounds that stand after the length: none, or those after a slash
 --   parts_of                  the parts of a text
 --   read_form                 the answer to a text
 --   text_of                   the text that a form is written as, where three digits hold its rounds
-use Rattle.std.specs.Prelude.{ℕ, ◌+◌, ◌-◌, ◌*◌, ◌/◌, ◌%◌, cond, ◌&&◌, List, [], ◌∷◌, ◌++◌, length, replicate, Some, None, Err, Option, Result, ◌==◌, nat_le, nat_lt}
+use Rattle.std.specs.Prelude.{ℕ, ◌+◌, ◌-◌, ◌*◌, ◌/◌, ◌%◌, cond, ◌&&◌, List, [], ◌∷◌, ◌++◌, Some, None, Err, Option, Result, ◌==◌, nat_le, nat_lt}
+use Rattle.std.specs.Option.{option_and_then}
 use Rattle.alphabets.specs.declared.alphabet.Alphabet.{Alphabet}
 use Rattle.faults.specs.declared.fault.Cause.TheVariants.{ShapeText}
 use Rattle.faults.specs.declared.fault.Fault.{Fault}
@@ -27,6 +29,14 @@ two_digits tens ones = followed (digit_of tens) (digit_of ones)
 
 abbrev pub three_digits : ℕ → ℕ → ℕ → Option ℕ
 three_digits hundreds tens ones = followed (two_digits hundreds tens) (digit_of ones)
+
+-- a number with more digits after it
+abbrev pub number_after : ℕ → List ℕ → Option ℕ
+number_after n [] = Some n
+number_after n (b ∷ more) = option_and_then (λ d. number_after (10 * n + d) more) (digit_of b)
+
+abbrev pub number_of : List ℕ → Option ℕ
+number_of digits = number_after 0 digits
 
 abbrev pub named : Option ℕ → Option (Option ℕ)
 named None = None
@@ -78,8 +88,3 @@ tail r = 47 ∷ digit (r / 100) ∷ digit (r / 10 % 10) ∷ digit (r % 10) ∷ [
 abbrev pub text_of : Form → Option (List ℕ)
 text_of f =
     cond (f.len == 1) (Some (stem f.alphabet f.len)) (cond (nat_lt f.rounds 1000) (Some (stem f.alphabet f.len ++ tail f.rounds)) None)
-
--- a text in seven bytes, with zeros after it, and its length
-abbrev pub in_seven : Option (List ℕ) → Option (List ℕ × ℕ)
-in_seven None = None
-in_seven (Some text) = Some (text ++ replicate (7 - length text) 0, length text)

@@ -24,31 +24,34 @@ const ROWS: [[u8; 12]; 13] = [
 
 // The least number of rounds, for a radix from 4 on and a length from 2 to 32. A radix above 16 has the row of
 // 16, and a length between two columns the larger of their two entries.
+#[tactic(auto, using(crate::proofs::Columns::tabled_by), unfolding(crate::specs::LeastRounds::tabled))]
 pub fn least_rounds(radix: u8, len: u8) -> Option<u8>
     ensures { result ≡ tabled radix len }
 {
-    if radix < 4 || len < 2 || len > 32 {
+    if radix < 4 || !(2..=32).contains(&len) {
         return None;
     }
-    let row = (radix.min(16) - 4) as usize;
-    Some(ROWS[row][column_below(len)].max(ROWS[row][column_above(len)]))
+    let row = &ROWS[usize::from(radix.min(16) - 4)];
+    Some(row[column_below(len)].max(row[column_above(len)]))
 }
 
 // The least number of rounds for an alphabet and a length, and 0 where the table has none, as at length 1.
+#[tactic(auto, unfolding(crate::specs::LeastRounds::least))]
 pub fn fewest_rounds(alphabet: Alphabet, len: u8) -> u16
     ensures { result ≡ least_of alphabet len }
 {
-    least_rounds(alphabet.radix(), len).unwrap_or(0) as u16
+    u16::from(least_rounds(alphabet.radix(), len).unwrap_or(0))
 }
 
-// The rounds of a shape for which none are named.
+// The rounds of a shape for which none are named: the least, but that is a choice of its own.
 pub fn default_rounds(alphabet: Alphabet, len: u8) -> u16
     ensures { result ≡ default_rounds alphabet len }
 {
     fewest_rounds(alphabet, len)
 }
 
-// The last column whose length is not above `len`.
+// The last column whose length is not above `len`. A match, and no search: each mask makes its shape again.
+#[tactic(auto, using(crate::proofs::Columns::below_by_lem))]
 fn column_below(len: u8) -> usize
     requires { (2 ≤ len) × (len ≤ 32) }
     ensures { (result ≡ column_below len) × (result ≤ 11) }
@@ -61,7 +64,8 @@ fn column_below(len: u8) -> usize
     }
 }
 
-// The first column whose length is not below `len`.
+// The first column whose length is not below `len`. A match, and no search: each mask makes its shape again.
+#[tactic(auto, using(crate::proofs::Columns::above_by_lem))]
 fn column_above(len: u8) -> usize
     requires { (2 ≤ len) × (len ≤ 32) }
     ensures { (result ≡ column_above len) × (result ≤ 11) }

@@ -1,34 +1,36 @@
 // The text of a shape: the alphabet's letter, two digits for the length and, if wanted, a slash and three digits
 // for the rounds, as d10 and d10/039.
-ghost use Rattle.std.specs.Prelude.{◌≡◌, ◌<◌, ◌≤◌};
+ghost use Rattle.std.specs.Prelude.{◌≡◌, ◌<◌, ◌≤◌, ◌^◌, length, IfSome};
+ghost use Rattle.std.specs.Option.{option_map};
+ghost use Rattle.arrayvec.specs.ArrayVec.{ArrayVec};
 ghost use Rattle.formats.specs.Shapes.{form, formed};
-ghost use Rattle.formats.specs.ShapeTexts.{digit_of, two_digits, three_digits, named_rounds, parts_of, read_form, text_of, in_seven};
+ghost use Rattle.formats.specs.ShapeTexts.{number_of, named_rounds, parts_of, read_form, text_of};
 
 use crate::shape::Shape;
 use alphabets::alphabet::Alphabet;
+use arrayvec::ArrayVec;
 use faults::fault::{Cause, Fault};
 
 impl Shape {
     // The shape that a text spells.
+    #[tactic(auto, unfolding(crate::specs::ShapeTexts::read_form))]
     pub fn read(text: &[u8]) -> Result<Shape, Fault>
         ensures { formed result ≡ read_form text.now }
     {
-        match parts(text) {
-            Some((alphabet, len, rounds)) => Shape::new(alphabet, len, rounds),
-            None => Err(Fault::own(Cause::ShapeText)),
-        }
+        let (alphabet, len, rounds) = parts(text).ok_or(Fault::own(Cause::ShapeText))?;
+        Shape::new(alphabet, len, rounds)
     }
 
-    // The text that names all of the shape, in seven bytes with zeros after it, and how long it is: 3 bytes at
-    // length 1, else 7, with the rounds. Rounds above 999, as length 2 may have them, have no text.
-    pub fn text(&self) -> Option<([u8; 7], usize)>
-        ensures { result ≡ in_seven (text_of (form self.now)) }
+    // The text that names all of the shape: 3 bytes at length 1, else 7, with the rounds. Rounds above 999, as
+    // length 2 may have them, have no text.
+    pub fn text(&self) -> Option<ArrayVec<u8, 7>>
+        ensures { option_map (λ (t : _). t.items) result ≡ text_of (form self.now) }
     {
         let letter = self.alphabet.letter();
         let tens = b'0' + self.len / 10;
         let ones = b'0' + self.len % 10;
         if self.len == 1 {
-            return Some(([letter, tens, ones, 0, 0, 0, 0], 3));
+            return ArrayVec::try_from([letter, tens, ones].as_slice()).ok();
         }
         if self.rounds >= 1000 {
             return None;
@@ -36,7 +38,7 @@ impl Shape {
         let high = b'0' + (self.rounds / 100) as u8;
         let middle = b'0' + (self.rounds / 10 % 10) as u8;
         let low = b'0' + (self.rounds % 10) as u8;
-        Some(([letter, tens, ones, b'/', high, middle, low], 7))
+        Some(ArrayVec::from([letter, tens, ones, b'/', high, middle, low]))
     }
 }
 
@@ -48,7 +50,7 @@ fn parts(text: &[u8]) -> Option<(Alphabet, u8, Option<u16>)>
         return None;
     };
     let alphabet = Alphabet::from_letter(*letter)?;
-    let len = two_digits(*tens, *ones)?;
+    let len = number(&[*tens, *ones])? as u8;
     let rounds = named_rounds(rest)?;
     Some((alphabet, len, rounds))
 }
@@ -59,32 +61,20 @@ fn named_rounds(rest: &[u8]) -> Option<Option<u16>>
 {
     match rest {
         [] => Some(None),
-        [b'/', hundreds, tens, ones] => Some(Some(three_digits(*hundreds, *tens, *ones)?)),
+        [b'/', hundreds, tens, ones] => Some(Some(number(&[*hundreds, *tens, *ones])?)),
         _ => None,
     }
 }
 
-fn three_digits(hundreds: u8, tens: u8, ones: u8) -> Option<u16>
-    ensures { result ≡ three_digits hundreds tens ones }
+// The number that at most three digits write.
+fn number(digits: &[u8]) -> Option<u16>
+    requires { length digits.now ≤ 3 }
+    ensures value { result ≡ number_of digits.now }
+    ensures small { IfSome result (λ n. n < 10 ^ length digits.now) }
 {
-    let front = two_digits(hundreds, tens)?;
-    let last = digit(ones)?;
-    Some(10 * front as u16 + last as u16)
-}
-
-fn two_digits(tens: u8, ones: u8) -> Option<u8>
-    ensures { result ≡ two_digits tens ones }
-{
-    let front = digit(tens)?;
-    let last = digit(ones)?;
-    Some(10 * front + last)
-}
-
-fn digit(byte: u8) -> Option<u8>
-    ensures { result ≡ digit_of byte }
-{
-    match byte {
-        b'0'..=b'9' => Some(byte - b'0'),
-        _ => None,
+    let mut number = 0;
+    for byte in digits {
+        number = 10 * number + u16::from(Alphabet::Decimal.symbol(*byte)?);
     }
+    Some(number)
 }
