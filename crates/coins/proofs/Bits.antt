@@ -1,8 +1,9 @@
 -- Bits: the bits of bytes by their places, and the number that bits form. Assumes nothing.
-use Rattle.std.proofs.Common.{◌≡◌, ℕ, zero, suc, ◌+◌, ◌-◌, ◌*◌, ◌/◌, ◌%◌, ◌^◌, ◌<◌, ◌≤◌, List, [], ◌∷◌, ◌++◌, length, get_or, take, drop, sym, refl, ap, ◌∙◌, ⊎_elim, mul_assoc, mul_comm, add-one, arith, lit<, pow_mono, pow-add}
+use Rattle.std.proofs.Common.{◌≡◌, ℕ, zero, suc, ◌+◌, ◌-◌, ◌*◌, ◌/◌, ◌%◌, ◌^◌, ◌<◌, ◌≤◌, List, [], ◌∷◌, ◌++◌, length, get_or, take, drop, Some, None, sym, refl, ap, ◌∙◌, ⊎_elim, mul_assoc, mul_comm, add-one, arith, lit<, pow_mono, pow-add}
 use lib.Arith.{digits_lt}
-use Rattle.std.specs.List.{AllByRecursion}
+use Rattle.std.specs.List.{AllByRecursion, slice_get}
 use Rattle.std.proofs.lemmas.List.{get_or_append_left, get_or-append_right, get_or-drop, length-drop, length-take, length_push, take_more}
+use Rattle.std.proofs.lemmas.Option.{none-some, slice_get-get_or, slice_get_within, get_or_from_slice_get}
 use Rattle.std.proofs.ByRecursion.{All-get_or, All-take, All-drop}
 use Rattle.std.proofs.lemmas.Bool.{cases_lt}
 use Rattle.coins.specs.Coins.{number, byte_bits, bits_of}
@@ -78,3 +79,16 @@ module _ (bs : List ℕ) (from : ℕ) where
 
 pub bit_below : (bs : List ℕ) (p : ℕ) → p < 8 * length bs → get_or (bits_of bs) p 0 < 2
 bit_below bs p h = All-get_or (λ b. b < 2) (bits_of bs) p 0 (rw length_bits_of h) (bits_below bs)
+
+-- what a look for a bit says
+pub bit_told : (bs : List ℕ) (p x : ℕ) → Some x ≡ slice_get (bits_of bs) p → (p < 8 * length bs) × (x ≡ get_or (bits_of bs) p 0)
+bit_told bs p x e =
+    let h = slice_get_within (bits_of bs) p x (sym e) in
+    (omega (arith, length_bits_of bs), sym (get_or_from_slice_get (bits_of bs) p x 0 (sym e)))
+
+pub bit_missing : (bs : List ℕ) (p : ℕ) → None ≡ slice_get (bits_of bs) p → 8 * length bs ≤ p
+bit_missing bs p e =
+    ⊎_elim
+    (λ h. absurd (none-some (get_or (bits_of bs) p 0) (e ∙ slice_get-get_or (bits_of bs) p 0 (rw length_bits_of h))))
+    (λ h. h)
+    (cases_lt p (8 * length bs))

@@ -1,14 +1,14 @@
 -- Boxes: swaps keep a permutation, and a permutation has an inverse. Assumes nothing.
 use Rattle.std.proofs.Common.{◌≡◌, ℕ, zero, suc, ◌+◌, ◌-◌, ◌<◌, ◌≤◌, cond, eqb, ◌≢◌, List, length, get_or, take, drop, set, IfOk, Ok, Err, Result, sym, refl, ap, ◌∙◌, subst, ⊎_elim, zero-add, arith, below_more}
 use Rattle.std.specs.List.{range_with_len, AllByRecursion}
-use Rattle.std.proofs.lemmas.List.FromFn.{length-range_with_len, get_or-range_with_len}
-use Rattle.std.proofs.lemmas.List.{get_or-take, length-take-le, length-set, get_or-set_same, get_or-set_other}
-use Rattle.std.proofs.lemmas.Result.{IfOk-at_ok}
+use Rattle.std.proofs.Math.Seq.{take-set-lt}
+use Rattle.std.proofs.lemmas.List.FromFn.{length-range_with_len, get_or-range_with_len, fill_by_all}
+use Rattle.std.proofs.lemmas.List.{ext_get_or, map-id, get_or-take, length-take-le, length-set, get_or-set_same, get_or-set_other}
 use Rattle.std.proofs.lemmas.Bool.{cases_eq, cases_lt, cond_both, eqb-true, eqb-false}
 use Rattle.std.proofs.ByRecursion.{All-drop}
 use Rattle.faults.specs.declared.fault.Fault.{Fault}
-use Rattle.coins.specs.Boxes.{Permutation, Undoes, swapped, follow, swaps, making, MadeIn, Shuffles}
-use Rattle.coins.specs.Coins.{Outcome, Bits}
+use Rattle.coins.specs.Boxes.{Permutation, Undoes, swapped, follow, swaps, Shuffles}
+use Rattle.coins.specs.Coins.{Outcome}
 use Rattle.coins.specs.Draws.{drawing}
 use Rattle.coins.proofs.Draws.{drawn_below}
 use Rattle.coins.proofs.Swaps.{make_low, make_high, make_within}
@@ -124,43 +124,48 @@ shuffles a coins b =
     (cases_lt 4096 a))
     (cases_lt a 2)
 
--- what is made in a table is a permutation
-pub made_permutes : (a : ℕ) (coins table : List ℕ) (r : Result ℕ Fault) → MadeIn table (making a coins) r → IfOk r (λ _. Bits coins) →
-    IfOk r (λ _. Permutation a table)
-made_permutes a coins table (Ok n) h b = IfOk-at_ok (Permutation a) (ap (λ o. o.answer) h) (shuffles a coins b.each)
-made_permutes a coins table (Err f) h b = tt
+-- the numbers at the front of a table, each at its own place
+pub counted_front : (a : ℕ) (table : List ℕ) → a ≤ length table → ((k : ℕ) → k < a → get_or table k 0 ≡ k) → take a table ≡ range_with_len 0 a
+counted_front a table l at =
+    fill_by_all (λ k. k) (take a table) a 0 (length-take-le a table l) (λ k h. get_or-take a table k 0 h ∙ at k h) ∙ map-id _
 
--- a permutation at the front of a longer table, and a table that is filled with its inverse
-module _ (a : ℕ) (table : List ℕ) (p : Permutation a (take a table)) where
-  front : (x : ℕ) → x < a → get_or (take a table) x 0 ≡ get_or table x 0
-  front x h = get_or-take a table x 0 h
+-- a swap at the front of a table
+pub swapped_front : (a : ℕ) (table made : List ℕ) (i j : ℕ) → i < a → j < a → made ≡ swapped table i j → take a made ≡ swapped (take a table) i j
+swapped_front a table made i j h k e =
+    let first = get_or-take a table i 0 h in
+    let second = get_or-take a table j 0 k in
+    ap (take a) e ∙ take-set-lt a (set table i (get_or table j 0)) j (get_or table i 0) k ∙
+    ap (λ l. set l j (get_or table i 0)) (take-set-lt a table i (get_or table j 0) h) ∙
+    ap (λ n. set (set (take a table) i n) j (get_or table i 0)) (sym second) ∙
+    ap (λ n. set (set (take a table) i (get_or (take a table) j 0)) j n) (sym first)
 
-  pub front_inside : (x : ℕ) → x < a → get_or table x 0 < a
-  front_inside x h = rw (front x h) at (p.inside x h)
-
-  front_once : (x y : ℕ) → x < a → y < a → get_or table x 0 ≡ get_or table y 0 → x ≡ y
-  front_once x y h k e = p.once x y h k (front x h ∙ e ∙ sym (front y k))
-
+-- the tables of a permutation: one has its entries, and the other the places of the numbers
+module _ (a : ℕ) (table : List ℕ) (p : Permutation a table) where
   pub invert_more : (inverse : List ℕ) (x : ℕ) → a ≤ length inverse → x < a →
       ((z : ℕ) → z < x → get_or inverse (get_or table z 0) 0 ≡ z) →
       (z : ℕ) → z < x + 1 → get_or (set inverse (get_or table x 0) x) (get_or table z 0) 0 ≡ z
   invert_more inverse x l h inv =
       below_more (λ z. get_or (set inverse (get_or table x 0) x) (get_or table z 0) 0 ≡ z) x
       (λ z k.
-      let n : get_or table z 0 ≢ get_or table x 0 = λ e. let s = front_once z x (omega arith) h e in omega arith in
+      let n : get_or table z 0 ≢ get_or table x 0 = λ e. let s = p.once z x (omega arith) h e in omega arith in
       get_or-set_other inverse (get_or table x 0) (get_or table z 0) x 0 n ∙ inv z k)
-      (let i = front_inside x h in get_or-set_same inverse (get_or table x 0) x 0 (omega arith))
+      (let i = p.inside x h in get_or-set_same inverse (get_or table x 0) x 0 (omega arith))
 
-  module _ (inverse : List ℕ) (filled : (z : ℕ) → z < a → get_or inverse (get_or table z 0) 0 ≡ z) where
-    pub inverse_there : Undoes a table inverse
-    inverse_there x h = (front_inside x h, filled x h)
+  module _ (forward inverse : List ℕ) (images : (k : ℕ) → k < a → get_or forward k 0 ≡ get_or table k 0)
+      (places : (k : ℕ) → k < a → get_or inverse (get_or table k 0) 0 ≡ k) where
+    pub tables_there : Undoes a forward inverse
+    tables_there x h = (rw (images x h) (p.inside x h), rw (images x h) (places x h))
 
-    pub inverse_back : Undoes a inverse table
-    inverse_back y h =
+    pub tables_back : Undoes a inverse forward
+    tables_back y h =
         let at = p.everywhere y h in
-        let e : get_or table at.0 0 ≡ y = sym (front at.0 at.1) ∙ at.2 in
-        let f : get_or inverse y 0 ≡ at.0 = ap (λ n. get_or inverse n 0) (sym e) ∙ filled at.0 at.1 in
-        (subst (λ (n : ℕ). n < a) (sym f) at.1, ap (λ n. get_or table n 0) f ∙ e)
+        let f : get_or inverse y 0 ≡ at.0 = ap (λ n. get_or inverse n 0) (sym at.2) ∙ places at.0 at.1 in
+        (subst (λ (n : ℕ). n < a) (sym f) at.1, ap (λ n. get_or forward n 0) f ∙ images at.0 at.1 ∙ at.2)
+
+    pub tables_front : a ≤ length forward → take a forward ≡ table
+    tables_front l =
+        let m = length-take-le a forward l in
+        ext_get_or 0 (take a forward) table (m ∙ sym p.long) (λ k h. get_or-take a forward k 0 (omega arith) ∙ images k (omega arith))
 
 -- tables that undo each other, cut at the radix
 module _ (a : ℕ) (table back : List ℕ) (there : Undoes a table back) where

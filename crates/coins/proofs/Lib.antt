@@ -3,6 +3,7 @@ pub mod Boxes
 pub mod Draws
 pub mod Fair
 pub mod Held
+pub mod Passes
 pub mod Places
 pub mod Swaps
 pub mod Takes

@@ -1,9 +1,9 @@
 -- Places: where a number stands in a table. Assumes nothing.
-use Rattle.std.proofs.Common.{◌≡◌, ℕ, zero, suc, ◌+◌, ◌<◌, ◌≤◌, eqb, List, [], ◌∷◌, length, get_or, take, Some, None, sym, refl, ap, ◌∙◌, add-zero, arith}
+use Rattle.std.proofs.Common.{◌≡◌, ℕ, zero, suc, ◌+◌, ◌<◌, ◌≤◌, eqb, List, [], ◌∷◌, length, get_or, take, Some, None, sym, refl, ap, ◌∙◌, ⊎_elim, add-zero, arith}
 use Rattle.std.specs.List.{slice_get}
 use Rattle.std.proofs.lemmas.List.{get_or-take, length-take-le}
 use Rattle.std.proofs.lemmas.Option.{slice_get-get_or, slice_get_past}
-use Rattle.std.proofs.lemmas.Bool.{cond-true, cond-false, eq-eqb, ne_eqb}
+use Rattle.std.proofs.lemmas.Bool.{cond-true, cond-false, eq-eqb, ne_eqb, cases_lt}
 use Rattle.coins.specs.Boxes.{Undoes}
 use Rattle.coins.specs.Sboxes.{place_from, place_of}
 
@@ -22,14 +22,6 @@ place_none i y (t ∷ ts) no_place =
 
 -- a box's table, as the first part of a longer one
 module _ (a : ℕ) (table : List ℕ) (long : a ≤ length table) where
-  pub image_at : (x : ℕ) → x < a → Some (get_or table x 0) ≡ slice_get (take a table) x
-  image_at x h =
-      let l = length-take-le a table long in
-      sym (slice_get-get_or (take a table) x 0 (omega arith) ∙ ap Some (get_or-take a table x 0 h))
-
-  pub image_none : (x : ℕ) → a ≤ x → None ≡ slice_get (take a table) x
-  image_none x h = let l = length-take-le a table long in sym (slice_get_past (take a table) x (omega arith))
-
   module _ (back : List ℕ) (there : Undoes a table back) (again : Undoes a back table) where
     -- the inverse finds the place
     pub place_at : (y : ℕ) → y < a → Some (get_or back y 0) ≡ place_of y (take a table)
@@ -52,3 +44,12 @@ module _ (a : ℕ) (table : List ℕ) (long : a ≤ length table) where
         let n : z < a = omega arith in
         let f : get_or table z 0 ≡ y = sym (get_or-take a table z 0 n) ∙ e in
         omega (arith, (there z n).0)))
+
+    -- so the inverse table is a look for the place
+    pub place_told : (y : ℕ) → a ≤ length back → slice_get (take a back) y ≡ place_of y (take a table)
+    place_told y l =
+        let m = length-take-le a back l in
+        ⊎_elim
+        (λ h. slice_get-get_or (take a back) y 0 (omega arith) ∙ ap Some (get_or-take a back y 0 h) ∙ place_at y h)
+        (λ h. slice_get_past (take a back) y (omega arith) ∙ place_past y h)
+        (cases_lt y a)

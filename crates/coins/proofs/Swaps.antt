@@ -1,12 +1,13 @@
 -- Swaps: one drawn swap after the other. Assumes nothing.
-use Rattle.std.proofs.Common.{◌≡◌, ℕ, zero, suc, ◌+◌, ◌-◌, ◌^◌, ◌<◌, ◌≤◌, ◌&&◌, leb, ◌⊎◌, List, length, drop, Ok, Err, Result, sym, refl, ap, ◌∙◌, subst, inl, inr, ⊎_elim, zero-le, add_assoc, zero-add, arith}
+use Rattle.std.proofs.Common.{◌≡◌, ℕ, zero, suc, ◌+◌, ◌-◌, ◌^◌, ◌<◌, ◌≤◌, ◌&&◌, leb, ◌⊎◌, List, length, drop, Some, None, Ok, Err, Result, sym, refl, ap, ◌∙◌, subst, inl, inr, ⊎_elim, zero-le, add_assoc, zero-add, arith}
 use Rattle.std.specs.List.{range_with_len}
-use Rattle.std.proofs.lemmas.List.FromFn.{length-range_with_len}
 use Rattle.std.proofs.lemmas.List.{drop-drop, length-drop}
-use Rattle.std.proofs.lemmas.Bool.{cond-true, cond-false, le-leb, lt-leb, and_from, and_left, and_right}
+use Rattle.std.proofs.lemmas.Bool.{cond-true, cond-false, le-leb, lt-leb, cases_Bool, and_from, and_left, and_right}
 use Rattle.faults.specs.declared.fault.Cause.TheVariants.{Range}
 use Rattle.faults.specs.declared.fault.Fault.{Fault}
 use Rattle.faults.specs.Faults.{own, deeper}
+use Rattle.faults.proofs.Variants.{none≢some, some≢none, same_some}
+use Rattle.coins.specs.Sboxes.{unmoved}
 use Rattle.coins.specs.Boxes.{swapped, and_then, swaps, making}
 use Rattle.coins.specs.Coins.{Bits, Outcome, refusal, after, with_count, counted}
 use Rattle.coins.specs.Draws.{drawing}
@@ -74,9 +75,6 @@ module _ {start : ℕ} {whole : Outcome (List ℕ)} {coins : List ℕ} {i : ℕ}
   unfolding swaps ahead
   shuffle_done e = sym t.goes ∙ ap (λ n. ahead taken (swaps n table rest)) e ∙ cong_outcome refl (omega arith)
 
-  pub shuffle_bits : i < start → Bits coins
-  shuffle_bits h = ⊎_elim (λ e. absurd (omega (arith, e.0))) (λ b. b) t.bits
-
   all_bits : Bits rest → Bits coins
   all_bits b = ⊎_elim (λ e. subst Bits (t.waits ∙ ap (λ n. drop n coins) e.1) b) (λ c. c) t.bits
 
@@ -135,7 +133,19 @@ module _ (a : ℕ) (coins : List ℕ) where
   unfolding making
   make_within l h = cond-true (leb 2 a && leb a 4096) _ _ (and_from _ _ (le-leb 2 a l) (le-leb a 4096 h))
 
-  -- a table that counts up is where a box starts
-  pub make_from : (table : List ℕ) → 2 ≤ a → a ≤ 4096 → table ≡ range_with_len 0 a → swaps (length table - 1) table coins ≡ making a coins
-  make_from table l h e =
-      ap (λ t. swaps (length t - 1) t coins) e ∙ ap (λ n. swaps (n - 1) (range_with_len 0 a) coins) (length-range_with_len 0 a) ∙ sym (make_within l h)
+  -- the box that stays as it is is where a box starts
+  pub make_refused : None ≡ unmoved a → making a coins ≡ refusal (own Range)
+  unfolding making
+  make_refused e =
+      ⊎_elim
+      (λ t. absurd (none≢some (range_with_len 0 a) (e ∙ cond-true _ _ None t)))
+      (λ f. cond-false _ _ _ f)
+      (cases_Bool (leb 2 a && leb a 4096))
+
+  pub make_from : (table : List ℕ) → Some table ≡ unmoved a → swaps (a - 1) table coins ≡ making a coins
+  unfolding making
+  make_from table e =
+      ⊎_elim
+      (λ t. ap (λ l. swaps (a - 1) l coins) (same_some table (range_with_len 0 a) (e ∙ cond-true _ _ None t)) ∙ sym (cond-true _ _ _ t))
+      (λ f. absurd (some≢none table (e ∙ cond-false _ (Some (range_with_len 0 a)) _ f)))
+      (cases_Bool (leb 2 a && leb a 4096))

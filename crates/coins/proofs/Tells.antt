@@ -1,6 +1,6 @@
 -- Tells: a table whose entries are below its length, none twice, holds every number below its length. Assumes nothing.
-use Rattle.std.proofs.Common.{◌≡◌, ℕ, zero, suc, ◌+◌, ◌<◌, ◌≤◌, Bool, true, false, cond, not, ◌&&◌, eqb, ltb, ◌≢◌, List, [], ◌∷◌, length, get_or, drop, sym, refl, ap, ◌∙◌, ⊎_elim, arith}
-use Rattle.std.proofs.lemmas.List.{at_drop_more, at_drop_all}
+use Rattle.std.proofs.Common.{◌≡◌, ℕ, zero, suc, ◌+◌, ◌<◌, ◌≤◌, Bool, true, false, cond, not, ◌&&◌, ◌||◌, eqb, ltb, ◌≢◌, List, [], ◌∷◌, length, get_or, sym, refl, ap, ◌∙◌, ⊎_elim, arith}
+use Rattle.std.specs.List.{list_any}
 use Rattle.std.proofs.lemmas.Bool.{cases_eq, cases_Bool, and_parts, and_from, and_left, and_right, eqb-true, eqb-false, eq-eqb, ne_eqb, ltb-true, lt-ltb, le-ltb, not-true, not_from_true, not_from_false, both_ways, cond-true, cond-false}
 use Rattle.coins.specs.Boxes.{Permutation, absent, below_once, permutes, Tells}
 use Rattle.coins.specs.Fair.{passing}
@@ -145,36 +145,28 @@ pub tells : (table : List ℕ) → Tells table
 tells table = record { sound = tells_sound table; complete = tells_complete table }
 
 -- ---- one step of the test
-module _ (a : ℕ) (table : List ℕ) (i : ℕ) (h : i < length table) where
-  pub once_high : a ≤ get_or table i 0 → below_once a (drop i table) ≡ false
+module _ (a x : ℕ) (xs : List ℕ) where
+  pub once_high : a ≤ x → below_once a (x ∷ xs) ≡ false
   unfolding below_once
-  once_high l =
-      at_drop_more (below_once a) table i 0 h ∙
-      and_left (ltb (get_or table i 0) a && absent (get_or table i 0) (drop (i + 1) table)) _
-      (and_left (ltb (get_or table i 0) a) _ (le-ltb (get_or table i 0) a l))
+  once_high l = and_left (ltb x a && absent x xs) _ (and_left (ltb x a) _ (le-ltb x a l))
 
-  pub once_again : absent (get_or table i 0) (drop (i + 1) table) ≡ false → below_once a (drop i table) ≡ false
+  pub once_again : absent x xs ≡ false → below_once a (x ∷ xs) ≡ false
   unfolding below_once
-  once_again e =
-      at_drop_more (below_once a) table i 0 h ∙
-      and_left (ltb (get_or table i 0) a && absent (get_or table i 0) (drop (i + 1) table)) _ (and_right (ltb (get_or table i 0) a) _ e)
+  once_again e = and_left (ltb x a && absent x xs) _ (and_right (ltb x a) _ e)
 
-  pub once_on : get_or table i 0 < a → absent (get_or table i 0) (drop (i + 1) table) ≡ true → below_once a (drop i table) ≡ below_once a (drop (i + 1) table)
+  pub once_on : x < a → absent x xs ≡ true → below_once a (x ∷ xs) ≡ below_once a xs
   unfolding below_once
-  once_on l e =
-      at_drop_more (below_once a) table i 0 h ∙
-      ap (λ b. b && below_once a (drop (i + 1) table)) (and_from (ltb (get_or table i 0) a) _ (lt-ltb (get_or table i 0) a l) e)
+  once_on l e = ap (λ b. b && below_once a xs) (and_from (ltb x a) _ (lt-ltb x a l) e)
 
-pub once_end : (a : ℕ) (table : List ℕ) (i : ℕ) → length table ≤ i → below_once a (drop i table) ≡ true
+pub once_end : (a : ℕ) → below_once a [] ≡ true
 unfolding below_once
-once_end a table i h = at_drop_all (below_once a) table i h
+once_end a = refl
 
-module _ (y : ℕ) (table : List ℕ) (i : ℕ) where
-  pub absent_hit : i < length table → get_or table i 0 ≡ y → absent y (drop i table) ≡ false
-  absent_hit h e = at_drop_more (absent y) table i 0 h ∙ ap (λ b. not b && absent y (drop (i + 1) table)) (eq-eqb (get_or table i 0) y e)
-
-  pub absent_on : i < length table → get_or table i 0 ≢ y → absent y (drop i table) ≡ absent y (drop (i + 1) table)
-  absent_on h e = at_drop_more (absent y) table i 0 h ∙ ap (λ b. not b && absent y (drop (i + 1) table)) (ne_eqb (get_or table i 0) y e)
-
-  pub absent_end : length table ≤ i → absent y (drop i table) ≡ true
-  absent_end h = at_drop_all (absent y) table i h
+-- whether a list has a number
+pub stands : (y : ℕ) (xs : List ℕ) → list_any (λ x. eqb x y) xs ≡ not (absent y xs)
+stands y [] = refl
+stands y (x ∷ xs) =
+    ⊎_elim
+    (λ t. ap (λ b. b || list_any (λ z. eqb z y) xs) t ∙ ap (λ b. not (not b && absent y xs)) (sym t))
+    (λ f. ap (λ b. b || list_any (λ z. eqb z y) xs) f ∙ stands y xs ∙ ap (λ b. not (not b && absent y xs)) (sym f))
+    (cases_Bool (eqb x y))

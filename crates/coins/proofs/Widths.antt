@@ -1,5 +1,7 @@
 -- Widths: how many coins a try takes. Assumes nothing.
-use Rattle.std.proofs.Common.{◌≡◌, ℕ, zero, suc, ◌+◌, ◌-◌, ◌^◌, ◌<◌, ◌≤◌, leb, sym, refl, ap, ◌∙◌, ⊎_elim, pow-suc, arith, lit<, pow_mono}
+use Rattle.std.proofs.Common.{◌≡◌, ℕ, zero, suc, ◌+◌, ◌*◌, ◌/◌, ◌%◌, ◌^◌, max, ◌<◌, ◌≤◌, leb, refl, ap, ◌∙◌, ⊎_elim, pow-suc, arith, lit<, pow_mono}
+use native.Mathlib.Nat.{pow-zero}
+use Rattle.std.proofs.lemmas.Nat.{one_shl}
 use Rattle.std.proofs.lemmas.Bool.{cond-true, cond-false, le-leb, lt-leb, cases_lt}
 use Rattle.coins.specs.Draws.{least_from, log2_up, width}
 
@@ -18,13 +20,6 @@ module _ (k e : ℕ) where
   pub least_past : (more : ℕ) → 2 ^ e < k → least_from k e (suc more) ≡ least_from k (suc e) more
   unfolding least_from
   least_past more h = cond-false (leb k (2 ^ e)) _ _ (lt-leb k (2 ^ e) h)
-
-  pub least_on : 2 ^ e < k → least_from k e (k - e) ≡ least_from k (e + 1) (k - (e + 1))
-  least_on h =
-      let p = below_power e in
-      let q : k - e ≡ suc (k - (e + 1)) = omega arith in
-      let r : suc e ≡ e + 1 = omega arith in
-      ap (least_from k e) q ∙ least_past (k - (e + 1)) h ∙ ap (λ n. least_from k n (k - (e + 1))) r
 
 least_reaches : (k e more : ℕ) → k ≤ e + more → k ≤ 2 ^ least_from k e more
 least_reaches k e zero h = let p = below_power e in rw (least_here k e zero (omega arith)) (omega arith)
@@ -62,7 +57,23 @@ pub width_most : (k : ℕ) → k ≤ 4096 → width k ≤ 16
 unfolding width
 width_most k h = omega (arith, log_is_least k 12 h)
 
--- what a search up to the twelfth power has found
-pub width_here : (k e : ℕ) → least_from k e (k - e) ≡ log2_up k → k ≤ 2 ^ e → e + 4 ≡ width k
+-- the exponent of the next power of two
+pub width_found : (k p e r : ℕ) → 2 ≤ k → p ≡ 2 ^ e → k ≤ p → p / 2 < max 1 k → 2 ^ r ≤ p → p < 2 * 2 ^ r → r + 4 ≡ width k
 unfolding width
-width_here k e inv h = ap (λ n. n + 4) (sym (least_here k e (k - e) h) ∙ inv)
+width_found k p zero r some power reaches next low high = absurd (omega (arith, pow-zero 2))
+width_found k p (suc d) r some power reaches next low high =
+    let double : 2 ^ suc d ≡ 2 ^ d * 2 = pow-suc 2 d in
+    let double' : 2 ^ suc r ≡ 2 ^ r * 2 = pow-suc 2 r in
+    let least = log_is_least k (suc d) (omega arith) in
+    let reached = log_reaches k in
+    let most : suc d ≤ log2_up k =
+    ⊎_elim (λ h. let m = pow_mono {i = log2_up k} {j = d} (omega arith) in absurd (omega arith)) (λ h. h) (cases_lt (log2_up k) (suc d)) in
+    let above : suc d ≤ r =
+    ⊎_elim (λ h. let m = pow_mono {i = suc r} {j = suc d} h in absurd (omega arith)) (λ h. h) (cases_lt r (suc d)) in
+    let below : r ≤ suc d =
+    ⊎_elim (λ h. let m = pow_mono {i = suc (suc d)} {j = r} h in let t : 2 ^ suc (suc d) ≡ 2 ^ suc d * 2 = pow-suc 2 (suc d) in absurd (omega arith)) (λ h. h) (cases_lt (suc d) r) in
+    omega arith
+
+-- the power that a try is cut at, as a shift makes it
+pub try_power : (k count : ℕ) → k ≤ 4096 → count ≡ width k → 1 * 2 ^ count % 4294967296 ≡ 2 ^ width k
+try_power k count h e = one_shl count 32 (omega (arith, width_most k h)) ∙ ap (λ n. 2 ^ n) e

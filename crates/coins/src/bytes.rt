@@ -1,7 +1,8 @@
 // Coins from given bytes.
-ghost use Rattle.std.specs.Prelude.{◌≡◌, ◌+◌, ◌*◌, ◌^◌, ◌<◌, ◌≤◌, length, take, drop, slice_index};
+ghost use Rattle.std.specs.Prelude.{◌≡◌, ◌*◌, ◌^◌, ◌<◌, ◌≤◌, if◌then◌else◌, nat_le, length, take};
 ghost use Rattle.coins.specs.Coins.{number, bits_of, bits_from};
 
+use crate::bit::bit_at;
 use crate::source::Coins;
 use faults::fault::{Cause, Fault};
 
@@ -31,34 +32,22 @@ impl<'a> Coins for ByteCoins<'a> {
         if count < 1 || count > 16 {
             return Err(Fault::own(Cause::Range));
         }
-        if self.pos + u128::from(count) > 8 * self.bytes.len() as u128 {
-            return Err(Fault::own(Cause::CoinsShort));
-        }
-        let number = number_at(self.bytes, self.pos, count);
+        let number = number_at(self.bytes, self.pos, count).ok_or(Fault::own(Cause::CoinsShort))?;
         self.pos += u128::from(count);
         Ok(number)
     }
 }
 
-// The number that the `count` bits from `from` on form.
-fn number_at(bytes: &[u8], from: u128, count: u32) -> u16
+// The number that the `count` bits from `from` on form, where there are so many. The coins of a key have a loop of
+// their own, which goes on from block to block.
+fn number_at(bytes: &[u8], from: u128, count: u32) -> Option<u16>
     requires fits { count ≤ 16 }
-    requires within { from + count ≤ 8 * length bytes.now }
-    ensures { result ≡ number (take count (drop from (bits_of bytes.now))) }
+    requires within { from ≤ 8 * length bytes.now }
+    ensures { let bits = bits_from from bytes.now in result ≡ (if nat_le count (length bits) then Some (number (take count bits)) else None) }
 {
     let mut number = 0u16;
-    for i in 0..count {
-        number = 2 * number + bit_at(bytes, from + u128::from(i));
+    for place in from..from + u128::from(count) {
+        number = 2 * number + bit_at(bytes, place)?;
     }
-    number
-}
-
-// The bit at a place, counted from the highest bit of the first byte.
-fn bit_at(bytes: &[u8], place: u128) -> u16
-    requires { place < 8 * length bytes.now }
-    ensures { result ≡ slice_index (bits_of bytes.now) place }
-{
-    let byte = bytes[(place / 8) as usize];
-    let shift = 7 - (place % 8) as u32;
-    u16::from(byte >> shift & 1)
+    Some(number)
 }

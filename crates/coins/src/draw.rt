@@ -21,10 +21,7 @@ pub fn draw_below<C: Coins>(coins: &mut C, bound: u16) -> Result<(u16, u128), Fa
     let count = try_width(bound);
     let mut taken = 0u128;
     loop {
-        let v = match coins.take(count) {
-            Ok(v) => v,
-            Err(fault) => return Err(fault.passed_up()),
-        };
+        let v = coins.take(count).map_err(Fault::passed_up)?;
         taken += u128::from(count);
         if let Some(number) = given_by(v, bound, count) {
             return Ok((number, taken));
@@ -40,7 +37,7 @@ fn given_by(v: u16, bound: u16, count: u32) -> Option<u16>
     ensures { result ≡ given_by bound v }
 {
     let bound = u32::from(bound);
-    let whole = power_of_two(count);
+    let whole = 1u32 << count;
     let product = u32::from(v) * bound;
     if product % whole < whole % bound {
         return None;
@@ -50,22 +47,8 @@ fn given_by(v: u16, bound: u16, count: u32) -> Option<u16>
 
 // How many coins a try takes.
 fn try_width(bound: u16) -> u32
-    requires { bound ≤ 4096 }
+    requires { (2 ≤ bound) × (bound ≤ 4096) }
     ensures { result ≡ width bound }
 {
-    for exponent in 0..12 {
-        if u32::from(bound) <= 1 << exponent {
-            return exponent + 4;
-        }
-    }
-    16
-}
-
-// Two to a power that 32 bits hold.
-fn power_of_two(exponent: u32) -> u32
-    requires { exponent < 32 }
-    ensures value { result ≡ 2 ^ exponent }
-    ensures some { 0 < result }
-{
-    1 << exponent
+    bound.next_power_of_two().ilog2() + 4
 }

@@ -1,10 +1,14 @@
 -- File: the form of a pool file, and its rows one after the other. Assumes nothing.
-use Rattle.std.proofs.Common.{◌≡◌, ℕ, zero, suc, ◌+◌, ◌*◌, ◌<◌, ◌≤◌, true, false, ◌&&◌, eqb, leb, List, [], length, get_or, take, drop, Some, None, sym, refl, ap, ◌∙◌, ⊎_elim, suc-mul, zero-mul, arith}
-use Rattle.std.proofs.lemmas.Nat.{mul-le}
-use Rattle.std.proofs.lemmas.List.{at_drop_more, at_drop_all, drop-drop, length-drop, length-take-le}
-use Rattle.std.proofs.lemmas.Bool.{cases_Bool, cond-true, cond-false, and_parts, and_from, leb-true, eqb-true, eqb-false, le-leb, eq-eqb}
+use Rattle.std.proofs.Common.{◌≡◌, ℕ, suc, ◌+◌, ◌-◌, ◌*◌, ◌<◌, ◌≤◌, true, false, ◌&&◌, eqb, leb, List, [], ◌∷◌, ◌++◌, length, get_or, take, drop, Some, None, Err, sym, refl, ap, ◌∙◌, subst, ⊎_elim, suc-mul, zero-mul, arith}
+use Rattle.std.proofs.lemmas.List.{append_assoc, append-nil, length-append, take_at, drop_at}
+use Rattle.std.proofs.lemmas.Bool.{cases_Bool, cases_lt, cond-true, cond-false, and_parts, and_from, leb-true, eqb-true, le-leb, eq-eqb}
+use Rattle.std.proofs.lemmas.Option.{some_pair_parts}
+use Rattle.faults.specs.declared.fault.Cause.TheVariants.{PoolFile}
+use Rattle.faults.specs.Faults.{own}
+use Rattle.faults.proofs.Variants.{none≢some, some≢none}
 use Rattle.coins.specs.Boxes.{permutes}
-use Rattle.pools.specs.File.{marked, version, radix_of, right_form, cut, first_bad}
+use Rattle.pools.specs.File.{marked, version, radix_of, right_form, parts, cut, first_bad, file_rows, rows_read, reading}
+use Rattle.pools.specs.Rows.{rows_of}
 
 -- ---- the form
 pub record Form (bytes : List ℕ) : Type 0 where
@@ -45,59 +49,134 @@ form_true bytes f =
 pub form_false : (bytes : List ℕ) → (Form bytes → ⊥) → right_form bytes ≡ false
 form_false bytes no-form = ⊎_elim (λ t. absurd (no-form (form_from bytes t))) (λ f. f) (cases_Bool (right_form bytes))
 
--- where all else is right, the size decides
-pub form_size : (bytes : List ℕ) (n : ℕ) → n ≡ radix_of bytes → (length bytes ≡ 6 + 256 * radix_of bytes → Form bytes) → eqb (length bytes) (6 + 256 * n) ≡ right_form bytes
-form_size bytes n e form =
-    ap (λ m. eqb (length bytes) (6 + 256 * m)) e ∙
+-- a file of the right form, byte by byte
+abbrev pub headed : ℕ → List ℕ → List ℕ
+headed r rows = 66 ∷ 88 ∷ 80 ∷ 0 ∷ 1 ∷ r ∷ rows
+
+pub form_headed : (bytes : List ℕ) → Form bytes → bytes ≡ headed (radix_of bytes) (drop 6 bytes)
+form_headed [] f = absurd (omega (arith, f.size))
+form_headed (b0 ∷ []) f = absurd (omega (arith, f.size))
+form_headed (b0 ∷ b1 ∷ []) f = absurd (omega (arith, f.size))
+form_headed (b0 ∷ b1 ∷ b2 ∷ []) f = absurd (omega (arith, f.size))
+form_headed (b0 ∷ b1 ∷ b2 ∷ b3 ∷ []) f = absurd (omega (arith, f.size))
+form_headed (b0 ∷ b1 ∷ b2 ∷ b3 ∷ b4 ∷ []) f = absurd (omega (arith, f.size))
+form_headed (b0 ∷ b1 ∷ b2 ∷ b3 ∷ b4 ∷ r ∷ rows) f =
+    let first : b0 ≡ 66 = f.first in
+    let second : b1 ≡ 88 = f.second in
+    let third : b2 ≡ 80 = f.third in
+    let high : b3 ≡ 0 = omega (arith, f.one) in
+    let low : b4 ≡ 1 = omega (arith, f.one) in
+    cc
+
+pub headed_from : (bytes marked rest rows : List ℕ) (r : ℕ) → bytes ≡ 66 ∷ 88 ∷ 80 ∷ marked → marked ≡ 0 ∷ 1 ∷ rest → rest ≡ r ∷ rows → bytes ≡ headed r rows
+headed_from bytes marked rest rows r e f g = cc
+
+pub parts_none : (bytes : List ℕ) → (Form bytes → ⊥) → None ≡ parts bytes
+parts_none bytes no-form = sym (cond-false (right_form bytes) _ None (form_false bytes no-form))
+
+pub parts_some : (bytes rows : List ℕ) (r : ℕ) → bytes ≡ headed r rows → 4 ≤ r → r ≤ 64 → length rows ≡ 256 * r → Some (r, rows) ≡ parts bytes
+parts_some bytes rows r e least most size =
+    let form : Form (headed r rows) = record { first = refl; second = refl; third = refl; one = refl; least = least; most = most; size = omega arith } in
+    sym (cond-true _ _ None (form_true (headed r rows) form)) ∙ ap parts (sym e)
+
+-- what the parts of a file tell
+pub parts_told : (bytes rows : List ℕ) (r : ℕ) → Some (r, rows) ≡ parts bytes → Form bytes × (r ≡ radix_of bytes) × (rows ≡ drop 6 bytes)
+parts_told bytes rows r e =
     ⊎_elim
-    (λ t. t ∙ sym (form_true bytes (form (eqb-true _ _ t))))
-    (λ f. f ∙ sym (form_false bytes (λ g. eqb-false _ _ f g.size)))
-    (cases_Bool (eqb (length bytes) (6 + 256 * radix_of bytes)))
+    (λ t.
+    let p = some_pair_parts r (radix_of bytes) rows (drop 6 bytes) (e ∙ cond-true (right_form bytes) (Some (radix_of bytes, drop 6 bytes)) None t) in
+    (form_from bytes t, p.0, p.1))
+    (λ f. absurd (some≢none (r, rows) (e ∙ cond-false (right_form bytes) (Some (radix_of bytes, drop 6 bytes)) None f)))
+    (cases_Bool (right_form bytes))
+
+pub parts_missing : (bytes : List ℕ) → None ≡ parts bytes → reading bytes ≡ Err (own PoolFile)
+parts_missing bytes e =
+    ⊎_elim
+    (λ t. absurd (none≢some (radix_of bytes, drop 6 bytes) (e ∙ cond-true (right_form bytes) (Some (radix_of bytes, drop 6 bytes)) None t)))
+    (λ f. cond-false (right_form bytes) _ _ f)
+    (cases_Bool (right_form bytes))
+
+pub reading_form : (bytes : List ℕ) → Form bytes → reading bytes ≡ rows_read (file_rows bytes)
+reading_form bytes f = cond-true (right_form bytes) _ _ (form_true bytes f)
 
 -- ---- the rows
-pub length_cut : (a m : ℕ) (bytes : List ℕ) → length (cut a m bytes) ≡ m
-unfolding cut
-length_cut a zero bytes = refl
-length_cut a (suc m) bytes = ap suc (length_cut a m (drop a bytes))
+-- at row n: the boxes of the rows before it, and the bytes from it on
+pub record Reading (a : ℕ) (bytes : List ℕ) (n : ℕ) (boxes : List (List ℕ)) (rest : List ℕ) : Type 0 where
+  pub within : n ≤ 256
+  pub left : length rest ≡ (256 - n) * a
+  pub joined : boxes ++ cut a (256 - n) rest ≡ cut a 256 bytes
+  pub search : first_bad n (cut a (256 - n) rest) ≡ first_bad 0 (cut a 256 bytes)
 
-pub cut_at : (a m n : ℕ) (bytes : List ℕ) → n < m → get_or (cut a m bytes) n [] ≡ take a (drop (n * a) bytes)
-unfolding cut
-cut_at a zero n bytes h = absurd (omega arith)
-cut_at a (suc m) zero bytes h = ap (λ k. take a (drop k bytes)) (sym (zero-mul a))
-cut_at a (suc m) (suc n) bytes h =
-    let e : a + n * a ≡ suc n * a = let s = suc-mul n a in omega arith in
-    cut_at a m n (drop a bytes) (omega arith) ∙ ap (take a) (drop-drop (n * a) a bytes) ∙ ap (λ k. take a (drop k bytes)) e
+reading_none : (a : ℕ) (bytes : List ℕ) → length bytes ≡ 256 * a → Reading a bytes 0 [] bytes
+reading_none a bytes l = record { within = omega arith; left = l; joined = refl; search = refl }
 
--- 256 rows have room
-pub cut_room : (a n : ℕ) → n < 256 → n * a + a ≤ 256 * a
-cut_room a n h =
-    let e = suc-mul n a in
-    let m = mul-le (suc n) a 256 a h (omega arith) in
-    omega arith
+pub reading_start : (a radix n : ℕ) (bytes rest forward : List ℕ) → n ≡ 0 → rest ≡ bytes → length bytes ≡ 256 * a → Reading a bytes n (rows_of radix n forward) rest
+unfolding rows_of
+reading_start a radix n bytes rest forward z e l =
+    subst (λ (n : ℕ). Reading a bytes n (rows_of radix n forward) rest) (sym z) (subst (λ (l : List ℕ). Reading a bytes 0 [] l) (sym e) (reading_none a bytes l))
 
--- one row of the search for a bad one
-module _ (rows : List (List ℕ)) (n : ℕ) (h : n < length rows) where
-  pub bad_here : permutes (get_or rows n []) ≡ false → first_bad n (drop n rows) ≡ Some n
-  unfolding first_bad
-  bad_here e = at_drop_more (first_bad n) rows n [] h ∙ cond-false (permutes (get_or rows n [])) _ (Some n) e
+module _ {a : ℕ} {bytes : List ℕ} {n : ℕ} {boxes : List (List ℕ)} {rest : List ℕ} (r : Reading a bytes n boxes rest) (some : 0 < a) where
+  -- a row comes
+  module _ (row after : List ℕ) (e : rest ≡ row ++ after) (long : length row ≡ a) where
+    pub reading_here : n < 256
+    reading_here =
+        ⊎_elim
+        (λ h. h)
+        (λ h.
+        let z : 256 - n ≡ 0 = omega arith in
+        let m = ap (λ k. k * a) z ∙ zero-mul a in
+        absurd (omega (arith, r.left, ap length e ∙ length-append row after)))
+        (cases_lt n 256)
 
-  pub bad_on : permutes (get_or rows n []) ≡ true → first_bad n (drop n rows) ≡ first_bad (n + 1) (drop (n + 1) rows)
-  unfolding first_bad
-  bad_on e =
-      at_drop_more (first_bad n) rows n [] h ∙ cond-true (permutes (get_or rows n [])) _ (Some n) e ∙
-      ap (λ k. first_bad k (drop (n + 1) rows)) (omega arith)
+    more : 256 - n ≡ suc (256 - (n + 1))
+    more = let h = reading_here in omega arith
 
-pub bad_none : (rows : List (List ℕ)) (n : ℕ) → length rows ≤ n → first_bad n (drop n rows) ≡ None
-unfolding first_bad
-bad_none rows n h = at_drop_all (first_bad n) rows n h
+    next : cut a (256 - n) rest ≡ row ∷ cut a (256 - (n + 1)) after
+    unfolding cut
+    next =
+        ap (λ k. cut a k rest) more ∙ ap (λ l. take a l ∷ cut a (256 - (n + 1)) (drop a l)) e ∙
+        ap (λ l. l ∷ cut a (256 - (n + 1)) (drop a (row ++ after))) (take_at row after a long) ∙
+        ap (λ l. row ∷ cut a (256 - (n + 1)) l) (drop_at row after a long)
 
--- row n of a file's rows
-module _ (a n : ℕ) (rows : List ℕ) (h : n < 256) where
-  pub slice_row : (w k : ℕ) → w ≡ a → k ≡ w → take k (drop (n * w) rows) ≡ get_or (cut a 256 rows) n []
-  slice_row w k e f =
-      ap (λ m. take m (drop (n * w) rows)) f ∙ ap (λ m. take m (drop (n * m) rows)) e ∙ sym (cut_at a 256 n rows h)
+    pub reading_bad : permutes row ≡ false → first_bad 0 (cut a 256 bytes) ≡ Some n
+    unfolding first_bad
+    reading_bad h = sym r.search ∙ ap (first_bad n) next ∙ cond-false (permutes row) _ (Some n) h
 
-  pub row_long : length rows ≡ 256 * a → length (get_or (cut a 256 rows) n []) ≡ a
-  row_long l =
-      let room = cut_room a n h in
-      ap length (cut_at a 256 n rows h) ∙ length-take-le a (drop (n * a) rows) (simp length-drop (omega arith))
+    pub reading_more : permutes row ≡ true → Reading a bytes (n + 1) (boxes ++ row ∷ []) after
+    unfolding first_bad
+    reading_more h =
+        let here = reading_here in
+        let s : suc n ≡ n + 1 = omega arith in
+        let m = ap (λ k. k * a) more ∙ suc-mul (256 - (n + 1)) a in
+        record {
+          within = omega arith;
+          left = omega (arith, r.left, ap length e ∙ length-append row after, m);
+          joined = append_assoc boxes (row ∷ []) (cut a (256 - (n + 1)) after) ∙ ap (λ l. boxes ++ l) (sym next) ∙ r.joined;
+          search =
+              ap (λ k. first_bad k (cut a (256 - (n + 1)) after)) (sym s) ∙ sym (cond-true (permutes row) _ (Some n) h) ∙
+              ap (first_bad n) (sym next) ∙ r.search;
+        }
+
+  -- no row comes
+  module _ (short : length rest < a) where
+    pub reading_end : n ≡ 256
+    reading_end =
+        let w = r.within in
+        ⊎_elim
+        (λ h.
+        let e : 256 - n ≡ suc (256 - (n + 1)) = omega arith in
+        let m = ap (λ k. k * a) e ∙ suc-mul (256 - (n + 1)) a in
+        absurd (omega (arith, r.left)))
+        (λ h. omega arith)
+        (cases_lt n 256)
+
+    none : 256 - n ≡ 0
+    none = let e = reading_end in omega arith
+
+    pub reading_boxes : boxes ≡ cut a 256 bytes
+    unfolding cut
+    reading_boxes = sym (append-nil boxes) ∙ ap (λ k. boxes ++ cut a k rest) (sym none) ∙ r.joined
+
+    pub reading_good : first_bad 0 (cut a 256 bytes) ≡ None
+    unfolding cut first_bad
+    reading_good = sym r.search ∙ ap (λ k. first_bad n (cut a k rest)) none

@@ -1,12 +1,9 @@
 -- Fills: tables after one box more. Assumes nothing.
-use Rattle.std.proofs.Common.{◌≡◌, ℕ, ◌+◌, ◌*◌, ◌<◌, ◌≤◌, List, [], ◌∷◌, ◌++◌, length, Ok, sym, ap, ◌∙◌, subst, arith}
+use Rattle.std.proofs.Common.{◌≡◌, ℕ, ◌+◌, ◌*◌, ◌<◌, ◌≤◌, List, [], ◌∷◌, ◌++◌, length, sym, ap, ◌∙◌, subst, arith}
 use Rattle.coins.specs.declared.sbox.Sbox.{Sbox}
-use Rattle.coins.specs.Boxes.{making}
-use Rattle.coins.specs.Coins.{Outcome, after}
 use Rattle.coins.specs.Sboxes.{entries, inverses}
 use Rattle.coins.proofs.Held.{box_permutes, inverses_long, box_undone, inverse_undone}
 use Rattle.pools.specs.Rows.{rows_of, written, Filled}
-use Rattle.pools.proofs.Makings.{Pooling, pooling_more}
 use Rattle.pools.proofs.Rows.{rows_written, rows_room, filled_more}
 
 -- the tables hold a box more, and its entries are their next row
@@ -31,11 +28,3 @@ module _ (b : Sbox) (n : ℕ) (forward inverse forward' inverse' : List ℕ) (he
 
   pub grown : (a : ℕ) → b.radix ≡ a → a ≤ 64 → Filled a n forward inverse → Grown a n forward forward' inverse' (entries b)
   grown a e = subst (λ (a : ℕ). a ≤ 64 → Filled a n forward inverse → Grown a n forward forward' inverse' (entries b)) e grown_here
-
--- the same, where the box was made from coins
-module _ {whole : Outcome (List (List ℕ))} {coins : List ℕ} {a n : ℕ} {rest : List ℕ} (forward : List ℕ) (p : Pooling whole coins a n (rows_of a n forward) rest) (here : n < 256) where
-  pub pooling_grown : (forward' rest' row : List ℕ) (gone : ℕ) → making a rest ≡ record { answer = Ok row; gone = gone } → rest' ≡ after (making a rest) rest →
-      rows_of a (n + 1) forward' ≡ rows_of a n forward ++ row ∷ [] → Pooling whole coins a (n + 1) (rows_of a (n + 1) forward') rest'
-  pooling_grown forward' rest' row gone e left rows =
-      subst (λ (l : List ℕ). Pooling whole coins a (n + 1) (rows_of a (n + 1) forward') l) (sym left)
-      (subst (λ (l : List (List ℕ)). Pooling whole coins a (n + 1) l (after (making a rest) rest)) (sym rows) (pooling_more p here row gone e))

@@ -3,6 +3,7 @@
 --   version     a number of two bytes, the high one first
 --   radix_of    the radix, one byte
 --   right_form  mark, version, radix and size are right
+--   parts       the radix, and what comes after the first six bytes, where the form is right
 --   file_rows   the 256 rows after the first six bytes
 --   first_bad   the first row that is no permutation
 --   reading     what it is to read a pool file
@@ -26,6 +27,10 @@ unfoldable pub right_form : List ℕ → Bool
 right_form bytes =
     marked bytes &&
     (version bytes == 1 && ((nat_le 4 (radix_of bytes) && nat_le (radix_of bytes) 64) && length bytes == 6 + 256 * radix_of bytes))
+
+-- the radix and the rows of a file of the right form
+abbrev pub parts : List ℕ → Option (ℕ × List ℕ)
+parts bytes = cond (right_form bytes) (Some (radix_of bytes, drop 6 bytes)) None
 
 -- a list cut into rows of a length
 unfoldable pub cut : ℕ → ℕ → List ℕ → List (List ℕ)

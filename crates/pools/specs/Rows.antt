@@ -5,9 +5,7 @@
 --   Inside    the entries of rows are below the radix
 --   Undone    each row of one table is undone by that of another
 --   Filled    two tables whose first rows are boxes and their inverses
---   Answered  a call fills tables with the rows that it should answer
-use Rattle.std.specs.Prelude.{◌≡◌, ℕ, zero, suc, ◌+◌, ◌*◌, ◌<◌, List, [], ◌∷◌, ◌++◌, take, drop, Ok, Err, Result, slice_index, slice_index_or}
-use Rattle.faults.specs.declared.fault.Fault.{Fault}
+use Rattle.std.specs.Prelude.{◌≡◌, ℕ, zero, suc, ◌+◌, ◌*◌, ◌<◌, List, [], ◌∷◌, ◌++◌, take, drop, slice_index, slice_index_or}
 
 unfoldable pub rows_of : ℕ → ℕ → List ℕ → List (List ℕ)
 rows_of a zero table = []
@@ -35,8 +33,3 @@ pub record Filled (a count : ℕ) (forward inverse : List ℕ) : Type 0 where
   pub inside_inverse : Inside a count (rows_of a count inverse)
   pub there : Undone a count (rows_of a count forward) (rows_of a count inverse)
   pub back : Undone a count (rows_of a count inverse) (rows_of a count forward)
-
--- a call that fills tables with rows: those that it should answer, or its refusal
-abbrev pub Answered : List (List ℕ) → Result (List (List ℕ)) Fault → Result (Unit {0}) Fault → Type 0
-Answered rows answer (Ok _) = answer ≡ Ok rows
-Answered rows answer (Err f) = answer ≡ Err f

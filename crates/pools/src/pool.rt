@@ -1,14 +1,11 @@
 // A pool: 256 boxes of one radix, and their inverses.
-ghost use Rattle.std.specs.Prelude.{◌≡◌, ◌+◌, ◌*◌, ◌<◌, ◌≤◌, ◌++◌, length, take};
-ghost use Rattle.std.specs.List.{AllByRecursion};
-ghost use Rattle.coins.specs.Sboxes.{entries as entries_of, inverses as inverses_of};
-ghost use Rattle.pools.specs.Rows.{rows_of, flat, written, Inside, Undone};
-
-use coins::sbox::Sbox;
+ghost use Rattle.std.specs.Prelude.{◌≡◌, ◌+◌, ◌*◌, ◌≤◌, length, take};
+ghost use Rattle.pools.specs.Rows.{rows_of, flat, Inside, Undone};
 
 mod file;
 mod read;
 mod shuffle;
+mod tables;
 
 // Where a pool's coins came from: an index sequence takes another label for a pool from the key.
 #[derive(Clone, Copy, PartialEq, Eq, Debug)]
@@ -20,7 +17,7 @@ pub enum Origin {
 }
 
 // The boxes and their inverses, a table each. Row n begins at place 2 n times the radix, and holds its box twice,
-// so that a sum of two symbols finds its image with no remainder taken.
+// so that a sum of two symbols finds its image with no remainder taken. `Tables::pool` is where each pool is made.
 #[derive(Drop)]
 pub struct Pool {
     origin: Origin,
@@ -37,41 +34,4 @@ pub struct Pool {
     ghost inside_inverse: { Inside radix 256 (rows_of radix 256 inverse) },
     ghost there: { Undone radix 256 (rows_of radix 256 forward) (rows_of radix 256 inverse) },
     ghost back: { Undone radix 256 (rows_of radix 256 inverse) (rows_of radix 256 forward) },
-}
-
-// Writes a box and its inverse as row n of the two tables.
-fn write_box(n: usize, sbox: &Sbox, forward: &mut [u8], inverse: &mut [u8])
-    requires row { n < 256 }
-    requires most { sbox.now.radix ≤ 64 }
-    requires whole { (length forward.old ≡ 32768) × (length inverse.old ≡ 32768) }
-    ensures forward { forward.new ≡ written sbox.now.radix n forward.old (entries_of sbox.now) }
-    ensures inverse { inverse.new ≡ written sbox.now.radix n inverse.old (inverses_of sbox.now) }
-{
-    write_row(n, sbox.images(), forward);
-    write_row(n, sbox.preimages(), inverse);
-}
-
-// Writes row n of a table.
-fn write_row(n: usize, entries: &[u16], table: &mut [u8])
-    requires row { n < 256 }
-    requires most { length entries.now ≤ 64 }
-    requires bytes { AllByRecursion (λ x. x < 256) entries.now }
-    requires whole { length table.old ≡ 32768 }
-    ensures { table.new ≡ written (length entries.now) n table.old entries.now }
-{
-    let width = entries.len() + entries.len();
-    write_twice(entries, &mut table[n * width..n * width + width]);
-}
-
-// Writes entries into a row, and once more after them.
-fn write_twice(entries: &[u16], row: &mut [u8])
-    requires bytes { AllByRecursion (λ x. x < 256) entries.now }
-    requires whole { length row.old ≡ length entries.now + length entries.now }
-    ensures { row.new ≡ entries.now ++ entries.now }
-{
-    let radix = entries.len();
-    for (i, entry) in entries.iter().enumerate() {
-        row[i] = *entry as u8;
-        row[radix + i] = *entry as u8;
-    }
 }

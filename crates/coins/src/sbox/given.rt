@@ -1,7 +1,7 @@
 // A box of given entries, where they are a permutation.
-ghost use Rattle.std.specs.Prelude.{◌≡◌, ◌≤◌, not, length, take};
+ghost use Rattle.std.specs.Prelude.{◌≡◌};
 ghost use Rattle.std.specs.Option.{option_map};
-ghost use Rattle.coins.specs.Boxes.{absent, permutes};
+ghost use Rattle.coins.specs.Boxes.{permutes};
 ghost use Rattle.coins.specs.Sboxes.{entries as entries_of, given};
 
 use crate::sbox::Sbox;
@@ -11,25 +11,20 @@ impl Sbox {
     pub fn from_entries(entries: &[u8]) -> Option<Sbox>
         ensures { option_map entries_of result ≡ given entries.now }
     {
-        if entries.len() < 2 || entries.len() > 4096 {
-            return None;
-        }
-        if !is_permutation(entries) {
+        if entries.len() < 2 || entries.len() > 4096 || !is_permutation(entries) {
             return None;
         }
         let mut forward = [0u16; 4096];
-        widen(entries, &mut forward);
-        Some(Sbox::of(entries.len() as u16, forward))
-    }
-}
-
-// Copies bytes to the front of a table.
-fn widen(bytes: &[u8], table: &mut [u16])
-    requires { length bytes.now ≤ length table.old }
-    ensures { take (length bytes.now) table.new ≡ bytes.now }
-{
-    for (i, b) in bytes.iter().enumerate() {
-        table[i] = u16::from(*b);
+        let mut inverse = [0u16; 4096];
+        for (x, image) in entries.iter().enumerate() {
+            forward[x] = u16::from(*image);
+            inverse[usize::from(*image)] = x as u16;
+        }
+        Some(Sbox {
+            radix: entries.len() as u16,
+            forward,
+            inverse,
+        })
     }
 }
 
@@ -37,25 +32,12 @@ fn widen(bytes: &[u8], table: &mut [u16])
 fn is_permutation(table: &[u8]) -> bool
     ensures { result ≡ permutes table.now }
 {
-    for i in 0..table.len() {
-        if table[i] as usize >= table.len() {
+    let mut rest = table;
+    while let Some((first, others)) = rest.split_first() {
+        if usize::from(*first) >= table.len() || others.contains(first) {
             return false;
         }
-        if stands(table[i], &table[i + 1..]) {
-            return false;
-        }
+        rest = others;
     }
     true
-}
-
-// Does a number stand in a table?
-fn stands(number: u8, table: &[u8]) -> bool
-    ensures { result ≡ not (absent number table.now) }
-{
-    for other in table {
-        if *other == number {
-            return true;
-        }
-    }
-    false
 }

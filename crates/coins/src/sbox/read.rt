@@ -12,7 +12,7 @@ impl Sbox {
         ensures value { result.now ≡ entries self.now }
         ensures permutes { Permutation self.now.radix result.now }
     {
-        &self.forward[0..self.radix as usize]
+        &self.forward[..usize::from(self.radix)]
     }
 
     // The numbers that have the numbers below the radix as their images, in their order.
@@ -21,26 +21,20 @@ impl Sbox {
         ensures there { Undoes self.now.radix (entries self.now) result.now }
         ensures back { Undoes self.now.radix result.now (entries self.now) }
     {
-        &self.inverse[0..self.radix as usize]
+        &self.inverse[..usize::from(self.radix)]
     }
 
     // The image of a number, where it is below the radix.
     pub fn apply(&self, x: u16) -> Option<u16>
         ensures { result ≡ slice_get (entries self.now) x }
     {
-        if x >= self.radix {
-            return None;
-        }
-        Some(self.forward[x as usize])
+        self.images().get(usize::from(x)).copied()
     }
 
     // The number that has an image, where it is below the radix.
     pub fn undo(&self, y: u16) -> Option<u16>
         ensures { result ≡ place_of y (entries self.now) }
     {
-        if y >= self.radix {
-            return None;
-        }
-        Some(self.inverse[y as usize])
+        self.preimages().get(usize::from(y)).copied()
     }
 }

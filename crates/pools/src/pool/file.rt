@@ -1,11 +1,12 @@
 // A pool from a file.
-ghost use Rattle.std.specs.Prelude.{◌≡◌, ◌*◌, ◌≤◌, length, IfOk, OnOk};
-ghost use Rattle.pools.specs.File.{radix_of, right_form, cut, rows_read, reading};
+ghost use Rattle.std.specs.Prelude.{◌≡◌, ℕ, List, IfOk};
+ghost use Rattle.std.specs.Option.{option_map};
+ghost use Rattle.pools.specs.File.{radix_of, parts, reading};
 ghost use Rattle.pools.specs.Pools.{held};
-ghost use Rattle.pools.specs.Rows.{rows_of, Filled, Answered};
 ghost use Rattle.pools.specs.declared.pool.Origin.TheVariants.{Given};
 
-use crate::pool::{Origin, Pool, write_box};
+use crate::pool::tables::Tables;
+use crate::pool::{Origin, Pool};
 use coins::sbox::Sbox;
 use faults::fault::{Cause, Fault};
 
@@ -22,68 +23,24 @@ impl Pool {
         ensures value { held result ≡ reading bytes.now }
         ensures made { IfOk result (λ p. (p.origin ≡ Given) × (p.radix ≡ radix_of bytes.now)) }
     {
-        if !is_pool_file(bytes) {
-            return Err(Fault::own(Cause::PoolFile));
+        let (radix, rows) = parts(bytes).ok_or(Fault::own(Cause::PoolFile))?;
+        let mut tables = Tables::new(radix);
+        for (n, row) in rows.chunks_exact(usize::from(radix)).enumerate() {
+            let sbox = Sbox::from_entries(row).ok_or(Fault::own(Cause::PoolRow).at(n))?;
+            tables.push(&sbox);
         }
-        read_pool(bytes[5], &bytes[6..])
+        Ok(tables.pool(Origin::Given))
     }
 }
 
-// Are the mark, the version, the radix and the size right?
-fn is_pool_file(bytes: &[u8]) -> bool
-    ensures { result ≡ right_form bytes.now }
+// The radix of a file and its rows, where the mark, the version, the radix and the size are right.
+fn parts(bytes: &[u8]) -> Option<(u8, &[u8])>
+    ensures { option_map {U = ℕ × List ℕ} (λ p. (p.0, p.1.now)) result ≡ parts bytes.now }
 {
-    if bytes.len() < 6 {
-        return false;
+    let rest = bytes.strip_prefix(&MARK)?.strip_prefix(&VERSION)?;
+    let (radix, rows) = rest.split_first()?;
+    if *radix < 4 || *radix > 64 || rows.len() != 256 * usize::from(*radix) {
+        return None;
     }
-    if bytes[0] != MARK[0] || bytes[1] != MARK[1] || bytes[2] != MARK[2] {
-        return false;
-    }
-    if bytes[3] != VERSION[0] || bytes[4] != VERSION[1] {
-        return false;
-    }
-    if bytes[5] < 4 || bytes[5] > 64 {
-        return false;
-    }
-    bytes.len() == 6 + 256 * usize::from(bytes[5])
-}
-
-// The pool of a radix whose rows a file holds.
-fn read_pool(radix: u8, rows: &[u8]) -> Result<Pool, Fault>
-    requires least { 4 ≤ radix }
-    requires most { radix ≤ 64 }
-    requires rows { length rows.now ≡ 256 * radix }
-    ensures value { held result ≡ rows_read (cut radix 256 rows.now) }
-    ensures made { IfOk result (λ p. (p.origin ≡ Given) × (p.radix ≡ radix)) }
-{
-    let mut forward = [0u8; 32768];
-    let mut inverse = [0u8; 32768];
-    match read_rows(radix, rows, &mut forward, &mut inverse) {
-        Ok(()) => Ok(Pool {
-            origin: Origin::Given,
-            radix,
-            forward,
-            inverse,
-        }),
-        Err(fault) => Err(fault),
-    }
-}
-
-// Fills the tables with the rows of a file.
-fn read_rows(radix: u8, rows: &[u8], forward: &mut [u8], inverse: &mut [u8]) -> Result<(), Fault>
-    requires least { 2 ≤ radix }
-    requires most { radix ≤ 64 }
-    requires rows { length rows.now ≡ 256 * radix }
-    requires whole { (length forward.old ≡ 32768) × (length inverse.old ≡ 32768) }
-    ensures value { Answered (rows_of radix 256 forward.new) (rows_read (cut radix 256 rows.now)) result }
-    ensures filled { OnOk result (Filled radix 256 forward.new inverse.new) }
-{
-    let width = usize::from(radix);
-    for n in 0..256 {
-        let Some(sbox) = Sbox::from_entries(&rows[n * width..n * width + width]) else {
-            return Err(Fault::own(Cause::PoolRow).at(n));
-        };
-        write_box(n, &sbox, forward, inverse);
-    }
-    Ok(())
+    Some((*radix, rows))
 }

@@ -1,36 +1,25 @@
-use Rattle.std.proofs.Common.{◌≡◌, ◌+◌, ◌<◌, ◌≤◌, length, drop, Ok, Err, sym, ap, ◌∙◌, ⊎_elim, arith}
-use Rattle.std.proofs.lemmas.List.{drop-drop, length-drop}
-use Rattle.faults.specs.declared.fault.Cause.TheVariants.{Range}
-use Rattle.faults.specs.Faults.{own}
-use Rattle.coins.specs.Coins.{refusal, bits_of, taking}
+use Rattle.coins.proofs.Takes.{byte_coins_bits}
+use Rattle.std.proofs.Common.{◌≡◌, ◌-◌, ◌*◌, ◌≤◌, length, sym, ◌∙◌, arith}
+use Rattle.std.proofs.lemmas.List.{length-drop}
+use Rattle.std.proofs.lemmas.Bool.{leb-true}
+use Rattle.std.proofs.lemmas.Option.{cond_some}
+use Rattle.coins.specs.Coins.{bits_from}
 use Rattle.coins.proofs.Bits.{length_bits_of}
-use Rattle.coins.proofs.Takes.{take_none, take_many, take_short, take_good, answers, leaves, byte_coins_bits}
 use Rattle.coins.proofs.bytes.ByteCoinsCoins.take.Goals as goal
 
-pub returns-then-count-lt1 : goal.returns-then-count-lt1
-returns-then-count-lt1 c =
-    let s = c.args.self.now in
-    let coins = drop s.pos (bits_of s.bytes.now) in
-    let e : taking c.args.count coins ≡ refusal (own Range) =
-    ⊎_elim (take_none c.args.count coins) (λ h. take_many c.args.count coins h.1) c.then-count-lt1.either in
-    record { bits = byte_coins_bits s.bytes.now s.pos s.short; value = ap Err c.own.ensures ∙ sym (answers e); after = sym (leaves coins e) }
+pub returns-then-count-lt1-clause-bits : goal.returns-then-count-lt1-clause-bits
+returns-then-count-lt1-clause-bits c = let s = c.args.self.now in byte_coins_bits s.bytes.now s.pos s.short
 
-pub returns-then-self-from : goal.returns-then-self-from
-returns-then-self-from c =
-    let s = c.args.self.now in
-    let coins = drop s.pos (bits_of s.bytes.now) in
-    let few : length coins < c.args.count = simp (length-drop, length_bits_of) (omega arith) in
-    let e = take_short c.args.count coins c.if-count-lt1.false c.if-count-gt16.false few in
-    record { bits = byte_coins_bits s.bytes.now s.pos s.short; value = ap Err c.own-then-self-from.ensures ∙ sym (answers e); after = sym (leaves coins e) }
+pub returns-in_err-number-clause-bits : goal.returns-in_err-number-clause-bits
+returns-in_err-number-clause-bits c = let s = c.args.self.now in byte_coins_bits s.bytes.now s.pos s.short
 
-pub returns : goal.returns
-returns c =
+pub returns-clause-bits : goal.returns-clause-bits
+returns-clause-bits c = let s = c.args.self.now in byte_coins_bits s.bytes.now s.pos s.short
+
+pub invariant_of-self : goal.invariant_of-self
+invariant_of-self c =
     let s = c.args.self.now in
-    let coins = drop s.pos (bits_of s.bytes.now) in
-    let enough : c.args.count ≤ length coins = simp (length-drop, length_bits_of) (omega arith) in
-    let e = take_good c.args.count coins c.if-count-lt1.false c.if-count-gt16.false enough in
-    record {
-      bits = byte_coins_bits s.bytes.now s.pos s.short;
-      value = ap Ok c.number_at-number.ensures ∙ sym (answers e);
-      after = ap (λ n. drop (s.pos + n) (bits_of s.bytes.now)) c.from-2.ensures ∙ sym (drop-drop c.args.count s.pos (bits_of s.bytes.now)) ∙ sym (leaves coins e);
-    }
+    let told = cond_some _ _ c.in_ok-number.number (sym c.number_at.ensures ∙ c.in_ok-number.ensures.ok_part) in
+    let enough : c.args.count ≤ length (bits_from s.pos s.bytes.now) = leb-true _ _ told.0 in
+    let left : length (bits_from s.pos s.bytes.now) ≡ 8 * length s.bytes.now - s.pos = simp (length-drop, length_bits_of) in
+    record { short = s.short; within = omega (arith, s.within) }

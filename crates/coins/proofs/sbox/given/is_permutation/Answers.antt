@@ -1,32 +1,39 @@
-use Rattle.std.proofs.Common.{◌≡◌, ◌+◌, true, false, length, get_or, drop, sym, ap, ◌∙◌}
-use Rattle.std.proofs.lemmas.List.{take_rest}
+use Rattle.std.proofs.Common.{◌≡◌, true, [], ◌∷◌, length, arith, sym, refl, ap, ◌∙◌}
+use Rattle.std.proofs.lemmas.List.{nil_from_length}
 use Rattle.std.proofs.lemmas.Bool.{not-true, not-false}
-use Rattle.coins.specs.Boxes.{absent, permutes}
-use Rattle.coins.proofs.Tells.{once_high, once_again, once_on, once_end}
+use Rattle.coins.specs.Boxes.{absent, below_once, permutes}
+use Rattle.coins.proofs.Tells.{once_high, once_again, once_on, once_end, stands}
+use Rattle.coins.proofs.sbox.given.is_permutation.Goals.{then-from-table-via-then-from-table, then-from-table-via-else-from-table+then-contains}
 use Rattle.coins.proofs.sbox.given.is_permutation.Goals as goal
 
-pub returns-then-table-i : goal.returns-then-table-i
+pub loop-first-init : goal.loop-first-init
 unfolding permutes
-returns-then-table-i c =
-    sym (once_high (length c.args.table.now) c.args.table.now c.loop-i.i c.loop-i-test.true c.if-table-i.true) ∙ c.loop-i.invariant
+loop-first-init c = refl
 
-pub returns-then-stands : goal.returns-then-stands
-unfolding permutes
-returns-then-stands c =
-    let t = c.args.table.now in
-    let i = c.loop-i.i in
-    let found : absent (get_or t i 0) (drop (i + 1) t) ≡ false =
-    ap (absent (get_or t i 0)) (sym (take_rest t (i + 1))) ∙ not-true _ (sym c.if-stands.ensures) in
-    sym (once_again (length t) t i c.loop-i-test.true found) ∙ c.loop-i.invariant
+pub returns-then-from-table : goal.returns-then-from-table
+returns-then-from-table c =
+    let h = c.in-Some.ensures.cases in
+    let n = length c.args.table.now in
+    let x = c.in-Some.first.now in
+    let others = c.in-Some.others.now in
+    let here : below_once n (x ∷ others) ≡ permutes c.args.table.now = ap (below_once n) (sym h.0) ∙ c.loop-first.invariant in
+    elim c.then-from-table.branch [
+      | then-from-table-via-then-from-table w ↦ sym (once_high n x others (omega (arith, w.if-from-table.true))) ∙ here
+      | then-from-table-via-else-from-table+then-contains w ↦
+          sym (once_again n x others (not-true _ (sym (stands x others) ∙ sym w.contains.ensures.value ∙ w.if-contains.true))) ∙ here
+    ]
 
-pub loop-i-preserved : goal.loop-i-preserved
-loop-i-preserved c =
-    let t = c.args.table.now in
-    let i = c.loop-i.i in
-    let none : absent (get_or t i 0) (drop (i + 1) t) ≡ true =
-    ap (absent (get_or t i 0)) (sym (take_rest t (i + 1))) ∙ not-false _ (sym c.if-stands.ensures) in
-    sym (once_on (length t) t i c.loop-i-test.true c.if-table-i.false none) ∙ c.loop-i.invariant
+pub loop-first-preserved : goal.loop-first-preserved
+loop-first-preserved c =
+    let h = c.in-Some.ensures.cases in
+    let n = length c.args.table.now in
+    let x = c.in-Some.first.now in
+    let others = c.in-Some.others.now in
+    let none : absent x others ≡ true = not-false _ (sym (stands x others) ∙ sym c.contains.ensures.value ∙ c.if-contains.false) in
+    sym (once_on n x others (omega arith) none) ∙ ap (below_once n) (sym h.0) ∙ c.loop-first.invariant
 
 pub returns : goal.returns
-unfolding permutes
-returns c = sym (once_end (length c.args.table.now) c.args.table.now c.loop-i.i c.loop-i-test.false) ∙ c.loop-i.invariant
+returns c =
+    let n = length c.args.table.now in
+    let empty : c.loop-first.rest.now ≡ [] = nil_from_length _ c.in_default.ensures.cases in
+    sym (once_end n) ∙ ap (below_once n) (sym empty) ∙ c.loop-first.invariant

@@ -1,6 +1,9 @@
-use Rattle.std.proofs.Common.{◌≡◌, length, drop}
-use Rattle.coins.specs.Boxes.{below_once}
+use Rattle.std.proofs.Common.{◌≡◌, length}
+use Rattle.coins.specs.Boxes.{below_once, permutes}
 use Rattle.coins.proofs.sbox.given.is_permutation.Given as goal
 
-abbrev pub invariant-loop-i : goal.invariant-loop-i
-invariant-loop-i l = below_once (length l.table) (drop l.i l.table) ≡ below_once (length l.table) l.table
+abbrev pub invariant-loop-first : goal.invariant-loop-first
+invariant-loop-first l = below_once (length l.table) l.rest ≡ permutes l.table
+
+abbrev pub decreases-loop-first : goal.decreases-loop-first
+decreases-loop-first l = length l.rest
