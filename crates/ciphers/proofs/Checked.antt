@@ -7,9 +7,24 @@ use Rattle.formats.specs.Codes.{Code, code_verdict}
 use Rattle.formats.proofs.Texts.{back_and_forth}
 use Rattle.faults.specs.Faults.{own}
 use Rattle.formats.specs.Forms.{Form}
-use Rattle.alphabets.specs.RunNames.{legal}
+use Rattle.alphabets.specs.RunNames.{legal, name_verdict}
 use Rattle.ciphers.specs.Meanings.{Meaning}
 use Rattle.ciphers.specs.Swaps.{checked, refused, swapped, unless_barred, unless_refused, swap, answer, barred_past, passed_up}
+
+-- what a check of a run's name says
+refused_by : (g : Bool) (e : Fault) → ◌≡◌ {A = Result Unit Fault} (Err e) (cond g (Ok tt) (Err (own RunName))) → (g ≡ false) × (e ≡ own RunName)
+refused_by true e h = let z : ◌≡◌ {A = ℕ} 0 1 = cc in absurd (omega arith)
+refused_by false e h = (refl, cc)
+
+verdict_by : (g : Bool) → ◌≡◌ {A = Result Unit Fault} (Ok tt) (cond g (Ok tt) (Err (own RunName))) → g ≡ true
+verdict_by true h = refl
+verdict_by false h = let z : ◌≡◌ {A = ℕ} 0 1 = cc in absurd (omega arith)
+
+pub name_refused : (run : List ℕ) (e : Fault) → Err e ≡ name_verdict run → (legal run ≡ false) × (e ≡ own RunName)
+name_refused run e h = refused_by (legal run) e h
+
+pub name_passed : (run : List ℕ) → Ok tt ≡ name_verdict run → legal run ≡ true
+name_passed run h = verdict_by (legal run) h
 
 module _ (taken : Bool) (f : Form) (run c : List ℕ) where
   pub bad_run : legal run ≡ false → checked taken f run c ≡ Err (own RunName)

@@ -57,7 +57,7 @@ module _ (len k z : ℕ) (buf : List ℕ) (some : 1 < len) (room : k + len < len
       let place : k + 1 + (len - 1) ≡ k + len = omega arith in
       sym (ap (λ n. get_or (set buf (k + len) z) n 0) place ∙ get_or-set_same buf (k + len) z 0 room)
 
--- the first two, once another is written before them
+-- the first three, once another is written before them
 module _ (k z : ℕ) (buf : List ℕ) (some : 0 < k) (room : k ≤ length buf) where
   pub first_next : z ≡ get_or (set buf (k - 1) z) (k - 1) 0
   first_next = sym (get_or-set_same buf (k - 1) z 0 (omega arith))
@@ -67,6 +67,12 @@ module _ (k z : ℕ) (buf : List ℕ) (some : 0 < k) (room : k ≤ length buf) w
       let place : k - 1 + 1 ≡ k = omega arith in
       let apart : k ≢ k - 1 = omega arith in
       sym (ap (λ n. get_or (set buf (k - 1) z) n 0) place ∙ get_or-set_other buf (k - 1) k z 0 apart)
+
+  pub third_next : get_or buf (k + 1) 0 ≡ get_or (set buf (k - 1) z) (k - 1 + 2) 0
+  third_next =
+      let place : k - 1 + 2 ≡ k + 1 = omega arith in
+      let apart : k + 1 ≢ k - 1 = omega arith in
+      sym (ap (λ n. get_or (set buf (k - 1) z) n 0) place ∙ get_or-set_other buf (k - 1) (k + 1) z 0 apart)
 
 module _ (boxes : List (List ℕ)) (a len w v : ℕ) (near : Near len w v) where
   pub encrypt_more : (seq buf : List ℕ) (k z : ℕ) → k < length seq → length seq + len ≤ length buf

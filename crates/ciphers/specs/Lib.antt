@@ -2,8 +2,11 @@ pub mod Meanings
 pub mod Swaps
 pub mod Layers
 pub mod Tables
+pub mod Windows
+pub mod Cores
 pub mod Networks
 pub mod Kept
 pub mod Held
 pub mod Networked
 pub mod Layered
+pub mod Ways

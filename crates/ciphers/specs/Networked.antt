@@ -1,10 +1,10 @@
 -- The network's laws, its branch distances and its index sequences. Assumes nothing.
-use Rattle.std.specs.Prelude.{◌≡◌, ℕ, zero, suc, ◌+◌, ◌-◌, ◌*◌, ◌/◌, ◌<◌, ◌≤◌, true, ◌&&◌, T, List, length, Ok, Err, Result, ◌==◌, nat_le, nat_lt, refl}
+use Rattle.std.specs.Prelude.{◌≡◌, ℕ, zero, suc, ◌+◌, ◌-◌, ◌*◌, ◌/◌, ◌<◌, ◌≤◌, true, T, List, ◌==◌, nat_le, nat_lt, refl}
 use Rattle.std.proofs.Common.{sym, ap, subst, ◌∙◌, mul-le-mul_right, one-mul, arith, ltb→lt}
 use Rattle.std.proofs.Math.Nat.{mul-mod_left}
 use Rattle.std.specs.List.{AllByRecursion}
 use Rattle.std.proofs.ByRecursion.{All-append, All-take}
-use Rattle.std.proofs.lemmas.Bool.{and_parts, and_from, eqb-true, leb-true, le-leb, eq-eqb, cond-true}
+use Rattle.std.proofs.lemmas.Bool.{and_parts, and_from, eqb-true, leb-true, le-leb, eq-eqb}
 use Rattle.block_cipher.specs.Cmac.{cmac}
 use Rattle.block_cipher.specs.Counter.{counter_block}
 use Rattle.block_cipher.proofs.Bytes.{Bytes, counter_bytes, cmac_bytes, mac_key_bytes}
@@ -15,12 +15,8 @@ use Rattle.alphabets.specs.Alphabets.{radix_of}
 use Rattle.formats.specs.Codes.{Code}
 use Rattle.formats.specs.Forms.{Form, least_of, layers_of, Exists}
 use Rattle.formats.specs.LeastRounds.{least, tabled, column_below, column_above}
-use Rattle.faults.specs.declared.fault.Cause.TheVariants.{Range}
-use Rattle.faults.specs.declared.fault.Fault.{Fault}
-use Rattle.faults.specs.Faults.{own}
 use Rattle.keys.specs.Derived.{derived_key}
-use Rattle.keys.specs.declared.distances.Distances.{Distances}
-use Rattle.keys.specs.Distances.{w_of, w'_of, distances, distances_of}
+use Rattle.keys.specs.Distances.{w_of, w'_of}
 use Rattle.keys.specs.Encodings.{Purpose, encode}
 use Rattle.keys.specs.Sequences.{index_sequence, sequence_list, first_half, start_of, blocks, stream, sized}
 use Rattle.pools.specs.declared.pool.Pool.{Pool}
@@ -122,27 +118,11 @@ sized_form a f least most two is =
     (and_from _ _ (and_from _ _ (le-leb 2 f.len two) (le-leb f.len 32 is.short))
     (and_from _ _ (eq-eqb _ 0 (mul-mod_left f.rounds f.len)) (and_from _ _ (le-leb f.len (layers_of f) (omega (arith, wide, one-mul f.len))) (le-leb (layers_of f) 2048 is.few))))
 
--- the distances that were answered are those of the length
-pub measured : (len : ℕ) (d : Distances) → 2 ≤ len → len ≤ 32 → Ok d ≡ distances_of len → (d.w ≡ w_of len) × (d.w_prime ≡ w'_of len)
-measured len d two short e =
-    let fit : (nat_le 2 len && nat_le len 32) ≡ true = and_from _ _ (le-leb 2 len two) (le-leb len 32 short) in
-    let is : ◌≡◌ {A = Result Distances Fault} (Ok d) (Ok (distances len)) = e ∙ cond-true (nat_le 2 len && nat_le len 32) (Ok (distances len)) (Err (own Range)) fit in
-    let same : d ≡ distances len = cc in
-    (ap (λ x. x.w) same, ap (λ x. x.w_prime) same)
+-- a code of a taken form is a string of symbols
+pub symbols_code : (net : Network) (f : Form) → (networked net).taken f ≡ true → (code : List ℕ) → Code f code → Symbols net.radix f.len code
+symbols_code = as_symbols_lem
 
-module _ (net : Network) (f : Form) (t : (networked net).taken f ≡ true) (is : Exists f) (len : ℕ) (d : Distances) (el : len ≡ f.len) (ed : Ok d ≡ distances_of len) where
-  of_form : (d.w ≡ w_of f.len) × (d.w_prime ≡ w'_of f.len)
-  of_form = measured f.len d (two_symbols net f t) is.short (ed ∙ ap distances_of el)
-
-  pub near_code : (code : List ℕ) → Code f code → Near (length code) d.w d.w_prime
-  near_code code c =
-      subst (λ (n : ℕ). Near n d.w d.w_prime) (sym c.long)
-      (subst (λ (n : ℕ). Near f.len n d.w_prime) (sym of_form.0) (subst (λ (n : ℕ). Near f.len (w_of f.len) n) (sym of_form.1) (near f.len (two_symbols net f t))))
-
-  pub symbols_code : (code : List ℕ) → Code f code → Symbols net.radix (length code) code
-  symbols_code code c = record { long = refl; each = (as_symbols_lem net f t code c).each }
-
-  pub by_form : (g : ℕ → ℕ → List ℕ → List ℕ) (run seq : List ℕ) → seq ≡ indices_of net f run
-      → g d.w d.w_prime seq ≡ g (w_of f.len) (w'_of f.len) (indices_of net f run)
-  by_form g run seq e =
-      ap (λ x. g x d.w_prime seq) of_form.0 ∙ (ap (λ x. g (w_of f.len) x seq) of_form.1 ∙ ap (g (w_of f.len) (w'_of f.len)) e)
+-- what the branch distances of a form and its index sequence give, their equals give
+pub by_form : (net : Network) (f : Form) (w v : ℕ) → w ≡ w_of f.len → v ≡ w'_of f.len → (g : ℕ → ℕ → List ℕ → List ℕ) (run is : List ℕ) → is ≡ indices_of net f run
+    → g w v is ≡ g (w_of f.len) (w'_of f.len) (indices_of net f run)
+by_form net f w v ew ev g run is e = ap (λ x. g x v is) ew ∙ (ap (λ x. g (w_of f.len) x is) ev ∙ ap (g (w_of f.len) (w'_of f.len)) e)

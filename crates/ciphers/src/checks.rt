@@ -12,9 +12,7 @@ use formats::shape::Shape;
 pub fn check(taken: bool, shape: &Shape, run: &[u8], code: &[u8]) -> Result<(), Fault>
     ensures { result ≡ checked taken (form shape.now) run.now code.now }
 {
-    if !run_name::is_legal(run) {
-        return Err(Fault::own(Cause::RunName));
-    }
+    run_name::check(run)?;
     if !taken {
         return Err(Fault::own(Cause::ShapeNotTaken));
     }
@@ -25,8 +23,5 @@ pub fn check(taken: bool, shape: &Shape, run: &[u8], code: &[u8]) -> Result<(), 
 pub fn pass_up(below: Result<(), Fault>) -> Result<(), Fault>
     ensures { result ≡ passed_up below }
 {
-    match below {
-        Ok(()) => Ok(()),
-        Err(fault) => Err(fault.passed_up()),
-    }
+    below.map_err(Fault::passed_up)
 }

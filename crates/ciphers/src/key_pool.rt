@@ -19,8 +19,6 @@ pub fn key_pool(mac: &Cmac, radix: u8, lent: &mut [u8; 32]) -> Result<Pool, Faul
     ensures made { IfOk result (λ p. (p.origin ≡ Key) × (p.radix ≡ radix)) }
     ensures cleared { lent.new ≡ cleared }
 {
-    match KeyCoins::new(mac, radix, lent) {
-        Err(fault) => Err(fault),
-        Ok(mut coins) => Pool::shuffled(Origin::Key, &mut coins, radix),
-    }
+    let mut coins = KeyCoins::new(mac, radix, lent)?;
+    Pool::shuffled(Origin::Key, &mut coins, radix)
 }

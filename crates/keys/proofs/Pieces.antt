@@ -1,7 +1,7 @@
 -- Pieces: lists that are written piece by piece into an array. Assumes nothing.
-use Rattle.std.proofs.Common.{◌≡◌, ℕ, ◌+◌, ◌-◌, ◌<◌, ◌≤◌, min, List, [], ◌∷◌, ◌++◌, length, get_or, take, drop, set, sym, ap, ◌∙◌, ⊎_elim, arith}
+use Rattle.std.proofs.Common.{◌≡◌, ℕ, ◌+◌, ◌-◌, ◌<◌, ◌≤◌, min, List, [], ◌∷◌, ◌++◌, length, take, drop, replicate, sym, ap, ◌∙◌, ⊎_elim, arith}
 use borrow.Rule.Slice.PartMut.{put_mid, post_of}
-use Rattle.std.proofs.lemmas.List.{append_assoc, append-nil, length-append, length-drop, length-take-le, set_split, set-append_right, take_all, take_at, drop_at, drop_all, drop-drop, drop_more}
+use Rattle.std.proofs.lemmas.List.{append_assoc, append-nil, length-append, length-drop, take_all, take_at, drop_at, drop_all, drop-drop}
 use Rattle.std.proofs.lemmas.Slice.{take-put_mid}
 use Rattle.std.proofs.lemmas.Bool.{cases_lt}
 
@@ -27,12 +27,11 @@ two_pieces a b old ha ho =
     ap (λ l. l ++ (b ++ drop 16 (drop 16 (a ++ rest)))) (take_at a rest 16 ha) ∙ ap (λ l. a ++ (b ++ l)) past ∙ ap (λ l. a ++ l) (append-nil b)
 
 -- sixteen, of which the last two are set to 0
-pub last_cleared : (s : List ℕ) → length s ≡ 16 → set (set s 14 0) 15 0 ≡ take 14 s ++ 0 ∷ 0 ∷ []
-last_cleared s h =
-    let last : drop 15 s ≡ get_or s 15 0 ∷ [] = drop_more s 15 0 (omega arith) ∙ ap (λ l. get_or s 15 0 ∷ l) (drop_all 16 s (omega arith)) in
-    ap (λ l. set l 15 0) (set_split s 14 0 (omega arith))
-    ∙ set-append_right (take 14 s) (0 ∷ drop 15 s) 14 15 0 (length-take-le 14 s (omega arith)) (omega arith)
-    ∙ ap (λ l. take 14 s ++ 0 ∷ set l 0 0) last
+pub last_cleared : (s zeros : List ℕ) (m : ℕ) → length s ≡ 16 → m ≡ 2 → zeros ≡ replicate m 0 → put_mid 14 2 s zeros ≡ take 14 s ++ 0 ∷ 0 ∷ []
+last_cleared s zeros m h two ez =
+    let two_zeros : zeros ≡ 0 ∷ 0 ∷ [] = ez ∙ ap (λ n. replicate n 0) two in
+    let past : drop 2 (drop 14 s) ≡ [] = drop-drop 2 14 s ∙ drop_all 16 s (omega arith) in
+    ap (λ l. take 14 s ++ (l ++ drop 2 (drop 14 s))) two_zeros ∙ ap (λ l. take 14 s ++ (0 ∷ 0 ∷ l)) past
 
 -- as much of sixteen as there is room for
 module _ (block out part : List ℕ) (from count k c : ℕ) (long : length block ≡ 16) (inside : from < length out)

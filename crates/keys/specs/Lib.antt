@@ -5,3 +5,4 @@ pub mod Derived
 pub mod Sequences
 pub mod KeyBits
 pub mod Encoded
+pub mod Listed

@@ -16,15 +16,15 @@ pub struct Distances {
 pub fn branch_distances(len: u8) -> Result<Distances, Fault>
     ensures { result ≡ distances_of len }
 {
-    if len < 2 || len > 32 {
+    if !matches!(len, 2..=32) {
         return Err(Fault::own(Cause::Range));
     }
     Ok(Distances::of(len))
 }
 
 impl Distances {
-    // What the formulas give, for a length that is known to be in range.
-    pub(crate) fn of(len: u8) -> Distances
+    // What the formulas give: the branch distances of a length that is in range.
+    pub fn of(len: u8) -> Distances
         ensures { result ≡ distances len }
     {
         let w = len.isqrt().min(len.saturating_sub(2));

@@ -1,12 +1,13 @@
 // The lists that keys are derived for, as bytes.
 ghost use Rattle.std.specs.Prelude.{◌≡◌, ◌≤◌, take};
 
+mod list;
 mod writing;
 
-pub(crate) use writing::write_sequence;
+pub(crate) use list::SequenceList;
 pub use writing::{encode_pool, encode_sequence};
 
-// The list of an index sequence as bytes: the first `len` of them.
+// The list of an index sequence as bytes: the first `len` of them. An encoding is copied, which an `ArrayVec` is not.
 #[derive(Clone, Copy)]
 pub struct Encoding {
     bytes: [u8; 46],
@@ -18,6 +19,6 @@ impl Encoding {
     pub fn as_slice(&self) -> &[u8]
         ensures { result.now ≡ take self.now.len self.now.bytes }
     {
-        &self.bytes[0..self.len]
+        &self.bytes[..self.len]
     }
 }

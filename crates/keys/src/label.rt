@@ -2,15 +2,15 @@
 ghost use Rattle.std.specs.Prelude.{◌≡◌};
 ghost use Rattle.keys.specs.Labels.{number_of, label_of};
 
-// The labels; `number` gives each its number.
+// The labels, each with its number.
 #[derive(Clone, Copy, PartialEq, Eq, Debug)]
 pub enum Label {
     // the index sequences over a pool that does not come from the key
-    Tokenization,
+    Tokenization = 1,
     // "FPE SEQ": the index sequences over the pool that comes from the key
-    FpeSeq,
+    FpeSeq = 2,
     // "FPE Pool": the coins that the pool is made from
-    FpePool,
+    FpePool = 3,
 }
 
 impl Label {
@@ -18,11 +18,7 @@ impl Label {
     pub fn number(self) -> u8
         ensures { result ≡ number_of self }
     {
-        match self {
-            Label::Tokenization => 1,
-            Label::FpeSeq => 2,
-            Label::FpePool => 3,
-        }
+        self as u8
     }
 }
 
@@ -36,7 +32,7 @@ pub enum Sequence {
 }
 
 impl Sequence {
-    // The label of the sequence's derived key.
+    // The label of the sequence's derived key. A call, and no `From`, which would only say it once more.
     pub fn label(self) -> Label
         ensures { result ≡ label_of self }
     {

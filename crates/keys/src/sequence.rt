@@ -6,9 +6,10 @@ ghost use Rattle.keys.specs.Derived.{cleared};
 ghost use Rattle.keys.specs.Sequences.{first_half, start_of, stream, pooled, layered, sized, sequence_verdict, indices_left};
 
 use crate::derive::{derive_sequence, first_half, second_half};
+use crate::encoding::SequenceList;
 use crate::label::Sequence;
 use crate::lent::Lent;
-use alphabets::run_name::is_legal;
+use alphabets::run_name::RunName;
 use block_cipher::aes::Aes128;
 use block_cipher::cmac::Cmac;
 use faults::fault::{Cause, Fault};
@@ -33,18 +34,15 @@ pub fn index_sequence(
     if !is_sized(radix, len, indices.len()) {
         return Err(Fault::own(Cause::Range));
     }
-    if !is_legal(run) {
-        return Err(Fault::own(Cause::RunName));
-    }
-    derive_sequence(
-        mac,
+    let run = RunName::new(run)?;
+    let list = SequenceList {
         sequence,
-        radix,
+        radix: u16::from(radix),
         len,
-        indices.len() as u16,
+        layers: indices.len() as u16,
         run,
-        key.bytes,
-    );
+    };
+    derive_sequence(mac, &list, key.bytes);
     write_indices(key.bytes, indices);
     Ok(())
 }
@@ -53,17 +51,14 @@ pub fn index_sequence(
 pub(crate) fn is_pooled(radix: u8) -> bool
     ensures { result ≡ pooled radix }
 {
-    radix >= 4 && radix <= 64
+    matches!(radix, 4..=64)
 }
 
 // Are the radix, the length and the number of indices in range?
 fn is_sized(radix: u8, len: u8, size: usize) -> bool
     ensures { result ≡ sized radix len size }
 {
-    if !is_pooled(radix) || len < 2 || len > 32 {
-        return false;
-    }
-    is_layered(len as usize, size)
+    is_pooled(radix) && matches!(len, 2..=32) && is_layered(len as usize, size)
 }
 
 // Are there so many layers of a length?
@@ -71,7 +66,7 @@ fn is_layered(len: usize, size: usize) -> bool
     requires { 2 ≤ len }
     ensures { result ≡ layered len size }
 {
-    size % len == 0 && size >= len && size <= 2048
+    size % len == 0 && (len..=2048).contains(&size)
 }
 
 // Writes the bytes of the counter blocks under a derived key.
@@ -87,12 +82,11 @@ fn start_of(key: &[u8; 32]) -> [u8; 16]
     ensures { result ≡ start_of key.now }
 {
     let mut start = second_half(key);
-    start[14] = 0;
-    start[15] = 0;
+    start[14..].fill(0);
     start
 }
 
-// Fills a slice with counter blocks, of which the last may be cut short.
+// Fills a slice with counter blocks, of which the last may be cut short. A block is made for its number.
 fn write_stream(aes: &Aes128, iv: [u8; 16], out: &mut [u8])
     ensures { out.new ≡ stream (key_of aes.now) iv (length out.old) }
 {
@@ -107,5 +101,5 @@ fn copy_block(block: [u8; 16], from: usize, out: &mut [u8])
     ensures { out.new ≡ take from out.old ++ (take (length out.old - from) block ++ drop (from + 16) out.old) }
 {
     let count = (out.len() - from).min(16);
-    out[from..from + count].copy_from_slice(&block[0..count]);
+    out[from..from + count].copy_from_slice(&block[..count]);
 }

@@ -1,14 +1,14 @@
 // Writing lists as bytes.
-ghost use Rattle.std.specs.Prelude.{◌≡◌, ◌≤◌, [], ◌∷◌, ◌++◌, length};
+ghost use Rattle.std.specs.Prelude.{◌≡◌, [], ◌∷◌, ◌++◌};
 ghost use Rattle.keys.specs.Distances.{w_of, w'_of};
 ghost use Rattle.keys.specs.Encoded.{written, written_in, encoding_of};
 ghost use Rattle.keys.specs.Encodings.{two, opening, encode, of_pool};
-ghost use Rattle.keys.specs.Sequences.{sequence_list};
+ghost use Rattle.keys.specs.Listed.{listed};
 
 use crate::distances::Distances;
-use crate::encoding::Encoding;
+use crate::encoding::{Encoding, SequenceList};
 use crate::label::{Label, Sequence};
-use alphabets::run_name::is_legal;
+use alphabets::run_name::RunName;
 use faults::fault::{Cause, Fault};
 
 // The list of an index sequence of so many layers. Its length is 2 to 32, which its branch distances follow
@@ -23,13 +23,18 @@ pub fn encode_sequence(
 ) -> Result<Encoding, Fault>
     ensures { written_in result ≡ encoding_of counter sequence radix len layers run.now }
 {
-    if len < 2 || len > 32 {
+    if !matches!(len, 2..=32) {
         return Err(Fault::own(Cause::Range));
     }
-    if !is_legal(run) {
-        return Err(Fault::own(Cause::RunName));
-    }
-    Ok(write_sequence(counter, sequence, radix, len, layers, run))
+    let run = RunName::new(run)?;
+    let list = SequenceList {
+        sequence,
+        radix,
+        len,
+        layers,
+        run,
+    };
+    Ok(list.encode(counter))
 }
 
 // The list of the pool of a radix.
@@ -39,25 +44,18 @@ pub fn encode_pool(counter: u8, radix: u16) -> [u8; 8]
     opening(counter, Label::FpePool, radix)
 }
 
-// The list of an index sequence whose run name is known to be short enough.
-pub(crate) fn write_sequence(
-    counter: u8,
-    sequence: Sequence,
-    radix: u16,
-    len: u8,
-    layers: u16,
-    run: &[u8],
-) -> Encoding
-    requires { length run.now ≤ 32 }
-    ensures { written result ≡ encode counter (sequence_list sequence radix len layers run.now) }
-{
-    let mut bytes = [0u8; 46];
-    bytes[0..8].copy_from_slice(&opening(counter, sequence.label(), radix));
-    bytes[8..14].copy_from_slice(&sizes(len, layers, run.len() as u8));
-    bytes[14..14 + run.len()].copy_from_slice(run);
-    Encoding {
-        bytes,
-        len: 14 + run.len(),
+impl SequenceList<'_> {
+    // The list with a counter.
+    pub(crate) fn encode(&self, counter: u8) -> Encoding
+        ensures { written result ≡ encode counter (listed self.now) }
+    {
+        let run = self.run.as_bytes();
+        let len = 14 + run.len();
+        let mut bytes = [0u8; 46];
+        bytes[..8].copy_from_slice(&opening(counter, self.sequence.label(), self.radix));
+        bytes[8..14].copy_from_slice(&sizes(self.len, self.layers, run.len() as u8));
+        bytes[14..len].copy_from_slice(run);
+        Encoding { bytes, len }
     }
 }
 

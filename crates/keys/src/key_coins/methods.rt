@@ -13,6 +13,7 @@ use crate::lent::Lent;
 use crate::sequence::is_pooled;
 use block_cipher::aes::Aes128;
 use block_cipher::cmac::Cmac;
+use coins::bit::bit_at;
 use coins::source::Coins;
 use faults::fault::{Cause, Fault};
 
@@ -63,7 +64,7 @@ impl KeyCoins {
         ensures below { result < 2 }
         ensures one { self.new.taken ≡ self.old.taken + 1 }
     {
-        let bit = bit_at(&self.block, self.taken % 128);
+        let bit = bit_at(&self.block, u128::from(self.taken % 128)).unwrap();
         let taken = self.taken + 1;
         let block = self.block_at(taken);
         self.taken = taken;
@@ -95,14 +96,4 @@ impl Coins for KeyCoins {
         }
         Ok(self.next_bits(count))
     }
-}
-
-// The bit at a place of a block, counted from the highest bit of the first byte.
-fn bit_at(block: &[u8; 16], place: u32) -> u16
-    requires { place < 128 }
-    ensures { result ≡ slice_index (bits_of block.now) place }
-{
-    let byte = block[(place / 8) as usize];
-    let shift = 7 - place % 8;
-    u16::from(byte >> shift & 1)
 }

@@ -1,4 +1,5 @@
 use Rattle.std.proofs.Common.{◌≡◌, ℕ, List, Ok, Err, Result, sym, ap, ◌∙◌, inl, inr, arith}
+use Rattle.std.proofs.lemmas.Result.{err_from_is_err_and}
 use Rattle.std.proofs.lemmas.Bool.{cases_Bool, cond-true, cond-false}
 use Rattle.faults.specs.declared.fault.Cause.TheVariants.{Range}
 use Rattle.faults.specs.declared.fault.Fault.{Fault}
@@ -26,9 +27,7 @@ no_pool main radix fault e =
           ∙ sym (ap (λ (o : Outcome (List (List ℕ))). o.answer) (cond-false (pooled radix) (makings radix 0 256 (key_bits main radix)) (refusal (own Range)) n))
     ]
 
-pub returns-in-Err : goal.returns-in-Err
-returns-in-Err c = record {
-  value = no_pool (mac_key_of c.args.mac.now) c.args.radix c.in-Err.fault c.in-Err.ensures.value;
-  made = tt;
-  cleared = c.new.ensures.cleared;
-}
+pub returns-in_err-coins-clause-value : goal.returns-in_err-coins-clause-value
+returns-in_err-coins-clause-value c =
+    let p = err_from_is_err_and c.from_residual.result c.from_residual.ensures.1 in
+    rw (p.1, p.2) (no_pool (mac_key_of c.args.mac.now) c.args.radix c.in_err-coins.field-0.0 c.in_err-coins.ensures.value)

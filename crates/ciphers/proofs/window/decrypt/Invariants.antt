@@ -6,11 +6,12 @@ use Rattle.ciphers.proofs.window.decrypt.Given as goal
 
 abbrev pub invariant-loop-k : goal.invariant-loop-k
 invariant-loop-k l =
-    AllByRecursion (λ x. x < l.radix) l.window
-    × (l.k ≤ length l.indices)
-    × (take l.len (drop l.k l.window) ≡ core_decrypt (rows_of l.radix 256 l.table) l.radix l.w l.v (drop l.k l.indices) (take l.len (drop (length l.indices) l.initial.window)))
-    × (l.first ≡ get_or l.window l.k 0)
-    × (l.second ≡ get_or l.window (l.k + 1) 0)
-
-abbrev pub decreases-loop-k : goal.decreases-loop-k
-decreases-loop-k l = l.k
+    let a = l.boxes.radix in
+    let boxes = rows_of a 256 l.boxes.table.now in
+    record {
+      symbols : AllByRecursion (λ x. x < a) l.window;
+      core : take l.len (drop l.k l.window) ≡ core_decrypt boxes a l.reach.w l.reach.v (drop l.k l.indices) (take l.len (drop (length l.indices) l.initial.window));
+      first : l.recent.first ≡ get_or l.window l.k 0;
+      second : l.recent.second ≡ get_or l.window (l.k + 1) 0;
+      third : 3 ≤ l.len → l.recent.third ≡ get_or l.window (l.k + 2) 0;
+    }

@@ -6,9 +6,12 @@ use Rattle.ciphers.proofs.window.encrypt.Given as goal
 
 abbrev pub invariant-loop-k : goal.invariant-loop-k
 invariant-loop-k l =
-    AllByRecursion (λ x. x < l.radix) l.window
-    × (core_encrypt (rows_of l.radix 256 l.table) l.radix l.w l.v (drop l.k l.indices) (take l.len (drop l.k l.window))
-    ≡ core_encrypt (rows_of l.radix 256 l.table) l.radix l.w l.v l.indices (take l.len l.initial.window))
-    × (l.older ≡ get_or l.window (l.k + (l.len - 2)) 0)
-    × (l.newer ≡ get_or l.window (l.k + (l.len - 1)) 0)
-    × (3 ≤ l.len → l.oldest ≡ get_or l.window (l.k + (l.len - 3)) 0)
+    let a = l.boxes.radix in
+    let boxes = rows_of a 256 l.boxes.table.now in
+    record {
+      symbols : AllByRecursion (λ x. x < a) l.window;
+      core : core_encrypt boxes a l.reach.w l.reach.v (drop l.k l.indices) (take l.len (drop l.k l.window)) ≡ core_encrypt boxes a l.reach.w l.reach.v l.indices (take l.len l.initial.window);
+      first : l.recent.first ≡ get_or l.window (l.k + (l.len - 1)) 0;
+      second : l.recent.second ≡ get_or l.window (l.k + (l.len - 2)) 0;
+      third : 3 ≤ l.len → l.recent.third ≡ get_or l.window (l.k + (l.len - 3)) 0;
+    }
