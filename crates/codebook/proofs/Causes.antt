@@ -8,7 +8,7 @@ use Rattle.faults.specs.declared.fault.Cause.TheVariants.{CoinsShort}
 use Rattle.faults.specs.declared.fault.Fault.{Fault}
 use Rattle.alphabets.specs.Alphabets.{radix_of}
 use Rattle.faults.specs.Faults.{own, deeper}
-use Rattle.formats.specs.Forms.{Form}
+use Rattle.formats.specs.Forms.{Form, code_count}
 use Rattle.faults.proofs.Variants.{err≢ok}
 use Rattle.coins.specs.Boxes.{Permutation, follow, swapped, swaps, making}
 use Rattle.coins.specs.Coins.{Outcome, after}
@@ -18,7 +18,7 @@ use Rattle.coins.proofs.Draws.{draw_within}
 use Rattle.coins.proofs.Swaps.{make_within}
 use Rattle.codebook.specs.BookLaws.{Sound, short, Made}
 use Rattle.codebook.specs.Books.{Book, book_of, in_book, making_book}
-use Rattle.codebook.specs.Numbers.{code_count, most_codes}
+use Rattle.codebook.specs.Numbers.{most_codes}
 use Rattle.codebook.specs.Counts.{some_symbols}
 use Rattle.codebook.proofs.Makings.{making_many, making_few}
 

@@ -5,12 +5,12 @@ use Rattle.alphabets.specs.declared.alphabet.Alphabet.{Alphabet}
 use Rattle.faults.specs.declared.fault.Cause.TheVariants.{ShapeNotTaken}
 use Rattle.alphabets.specs.Alphabets.{radix_of}
 use Rattle.faults.specs.Faults.{own}
-use Rattle.formats.specs.Forms.{Form}
+use Rattle.formats.specs.Forms.{Form, code_count}
 use Rattle.faults.proofs.Variants.{none≢some, some≢none, same_some}
 use Rattle.coins.specs.Boxes.{making}
 use Rattle.coins.specs.Coins.{Outcome, refusal}
 use Rattle.codebook.specs.Books.{Book, in_book, making_book}
-use Rattle.codebook.specs.Numbers.{code_count, most_codes, few_codes}
+use Rattle.codebook.specs.Numbers.{most_codes, few_codes}
 
 -- what the count tells
 pub too_many_told : (f : Form) → None ≡ few_codes f → most_codes < code_count f

@@ -1,11 +1,11 @@
 -- The examples of codebooks, computed. Assumes nothing.
 use Rattle.std.proofs.Common.{ℕ, List, refl}
-use Rattle.formats.specs.Forms.{Form}
+use Rattle.formats.specs.Forms.{Form, code_count}
 use Rattle.coins.specs.Boxes.{swaps, making}
 use Rattle.coins.specs.Draws.{least_from, log2_up, width, drawing}
 use Rattle.codebook.specs.BookLaws.{Examples}
 use Rattle.codebook.specs.Books.{making_book, through}
-use Rattle.codebook.specs.Numbers.{written, code_count}
+use Rattle.codebook.specs.Numbers.{written}
 
 pub examples : (f : Form) (run : List ℕ) (rounds : ℕ) → Examples f run rounds
 unfolding code_count written through making_book making swaps drawing width log2_up least_from

@@ -2,27 +2,25 @@
 --   number      the number that a code reads as, over a radix
 --   written     the code of a length that a number is written as
 --   code_count  how many codes a form has
+--   most_codes  the most codes that a codebook can have
 --   few_codes   the count, where a codebook can have so many codes
 --   Numbering   codes of a length and the numbers below their count go one to one
-use Rattle.std.specs.Prelude.{◌≡◌, ℕ, zero, suc, ◌+◌, ◌*◌, ◌/◌, ◌%◌, ◌^◌, ◌<◌, cond, List, [], ◌∷◌, length, Some, None, Option, nat_le}
+use Rattle.std.specs.Prelude.{◌≡◌, ℕ, zero, suc, ◌+◌, ◌*◌, ◌/◌, ◌%◌, ◌^◌, ◌<◌, List, [], ◌∷◌, length, Option}
 use Rattle.std.specs.List.{AllByRecursion}
 pub use Rattle.std.specs.Int.Digits.{number_from_digits as number}
-use Rattle.alphabets.specs.Alphabets.{radix_of}
-use Rattle.formats.specs.Forms.{Form}
+use Rattle.formats.specs.Forms.{Form, counted}
+pub use Rattle.formats.specs.Forms.{code_count}
 
 -- the symbol with n symbols after it counts the n-th power of the radix
 unfoldable pub written : ℕ → ℕ → ℕ → List ℕ
 written a zero v = []
 written a (suc n) v = v / a ^ n % a ∷ written a n v
 
-unfoldable pub code_count : Form → ℕ
-code_count f = radix_of f.alphabet ^ f.len
-
 abbrev pub most_codes : ℕ
 most_codes = 4096
 
 abbrev pub few_codes : Form → Option ℕ
-few_codes f = cond (nat_le (code_count f) most_codes) (Some (code_count f)) None
+few_codes f = counted f most_codes
 
 pub record Numbering (a n : ℕ) : Type 0 where
   -- the first symbol counts highest

@@ -1,9 +1,7 @@
 // The codebook as a cipher over formats.
 ghost use Rattle.std.specs.Prelude.{◌≡◌, ◌^◌, ◌<◌, ◌≤◌, length};
-ghost use Rattle.std.specs.Option.{unwrap_or};
-ghost use Rattle.std.specs.List.{AllByRecursion, slice_get};
+ghost use Rattle.std.specs.List.{AllByRecursion};
 ghost use Rattle.formats.specs.Shapes.{form};
-ghost use Rattle.coins.specs.Sboxes.{place_of};
 ghost use Rattle.codebook.specs.Books.{numbered, meaning_of};
 ghost use Rattle.codebook.specs.Codebooks.{book};
 ghost use Rattle.codebook.specs.Numbers.{number as number_of, written};
@@ -26,16 +24,17 @@ impl FormatCipher for Codebook {
         self.alphabet == shape.alphabet() && self.len == shape.len()
     }
 
+    // No way as a parameter here and below: what differs is one word, and all else has a name already.
     fn forward(&mut self, shape: &Shape, run: &[u8], code: &mut [u8]) -> Result<(), Fault> {
         let number = self.number_of(shape, run, code)?;
-        let image = self.image(number);
+        let image = self.sbox.apply(number).unwrap_or(0);
         write_number(self.alphabet.radix(), image, code);
         Ok(())
     }
 
     fn backward(&mut self, shape: &Shape, run: &[u8], code: &mut [u8]) -> Result<(), Fault> {
         let image = self.number_of(shape, run, code)?;
-        let number = self.preimage(image);
+        let number = self.sbox.undo(image).unwrap_or(0);
         write_number(self.alphabet.radix(), number, code);
         Ok(())
     }
@@ -49,20 +48,6 @@ impl Codebook {
         check(self.takes(shape), shape, run, code)?;
         Ok(read_number(self.alphabet.radix(), code))
     }
-
-    // The image of a number below the radix.
-    fn image(&self, number: u16) -> u16
-        ensures { result ≡ unwrap_or (slice_get (book self.now).table number) 0 }
-    {
-        self.sbox.apply(number).unwrap_or(0)
-    }
-
-    // The number that has an image.
-    fn preimage(&self, image: u16) -> u16
-        ensures { result ≡ unwrap_or (place_of image (book self.now).table) 0 }
-    {
-        self.sbox.undo(image).unwrap_or(0)
-    }
 }
 
 // The number that a code reads as.
@@ -71,6 +56,7 @@ fn read_number(radix: u8, code: &[u8]) -> u16
     requires few { radix ^ length code.now ≤ 4096 }
     ensures { result ≡ number_of radix code.now }
 {
+    // A loop: the closure of a fold could not bound the number so far.
     let mut number = 0u16;
     for x in code {
         number = number * u16::from(radix) + u16::from(*x);
@@ -83,6 +69,7 @@ fn write_number(radix: u8, number: u16, code: &mut [u8])
     requires { 0 < radix }
     ensures { code.new ≡ written radix (length code.old) number }
 {
+    // By the place: what a reversed `iter_mut` writes is not known to the proof.
     let mut rest = number;
     for i in (0..code.len()).rev() {
         code[i] = (rest % u16::from(radix)) as u8;

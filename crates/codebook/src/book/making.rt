@@ -7,11 +7,13 @@ ghost use Rattle.codebook.specs.Books.{making_book};
 ghost use Rattle.codebook.specs.Codebooks.{book, booked};
 
 use crate::book::Codebook;
-use crate::count::count_codes;
 use coins::sbox::Sbox;
 use coins::source::Coins;
 use faults::fault::{Cause, Fault};
 use formats::shape::Shape;
+
+// The most codes that a codebook can have.
+const MOST_CODES: u64 = 4096;
 
 impl Codebook {
     // Makes the codebook of a shape's alphabet and length from coins. Refused for more than 4,096 codes, when
@@ -21,13 +23,10 @@ impl Codebook {
         ensures after { C.waiting coins.new ≡ after (making_book (form shape.now) (C.waiting coins.old)) (C.waiting coins.old) }
         ensures sound { IfOk result (λ b. Sound (book b)) }
     {
-        let Some(count) = count_codes(shape) else {
-            return Err(Fault::own(Cause::ShapeNotTaken));
-        };
-        let (sbox, _) = match Sbox::shuffled(coins, count) {
-            Ok(shuffled) => shuffled,
-            Err(fault) => return Err(fault.passed_up()),
-        };
+        let count = shape
+            .count_codes(MOST_CODES)
+            .ok_or(Fault::own(Cause::ShapeNotTaken))?;
+        let (sbox, _) = Sbox::shuffled(coins, count as u16).map_err(Fault::passed_up)?;
         Ok(Codebook {
             alphabet: shape.alphabet(),
             len: shape.len(),

@@ -1,4 +1,5 @@
 use Rattle.std.proofs.Common.{Err, sym, refl, ap, ◌∙◌}
+use Rattle.std.specs.Option.{unwrap_or}
 use Rattle.std.proofs.lemmas.Result.{err_from_is_err_and}
 use Rattle.formats.specs.Shapes.{form}
 use Rattle.coins.specs.Sboxes.{place_of}
@@ -18,5 +19,5 @@ pub returns : goal.returns
 returns c =
     let b = book c.args.self.now in
     let done = call_passed b (form c.args.shape.now) c.args.run.now c.args.code.now (λ y. place_of y b.table)
-    c.in_ok-image.ensures c.preimage-number.ensures c.radix.ensures c.write_number.ensures in
+    c.in_ok-image.ensures (c.unwrap_or-number.ensures ∙ ap (λ o. unwrap_or o 0) c.undo.ensures) c.radix.ensures c.write_number.ensures in
     record { value = sym (ap answer done); after = sym (ap (λ o. left o c.args.code.now) done); same = refl }

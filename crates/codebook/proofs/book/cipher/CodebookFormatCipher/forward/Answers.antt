@@ -1,5 +1,6 @@
 use Rattle.std.proofs.Common.{Err, sym, refl, ap, ◌∙◌}
 use Rattle.std.specs.List.{slice_get}
+use Rattle.std.specs.Option.{unwrap_or}
 use Rattle.std.proofs.lemmas.Result.{err_from_is_err_and}
 use Rattle.formats.specs.Shapes.{form}
 use Rattle.ciphers.specs.Swaps.{answer, left}
@@ -18,5 +19,5 @@ pub returns : goal.returns
 returns c =
     let b = book c.args.self.now in
     let done = call_passed b (form c.args.shape.now) c.args.run.now c.args.code.now (slice_get b.table)
-    c.in_ok-number.ensures c.image-image.ensures c.radix.ensures c.write_number.ensures in
+    c.in_ok-number.ensures (c.unwrap_or-image.ensures ∙ ap (λ o. unwrap_or o 0) c.apply.ensures) c.radix.ensures c.write_number.ensures in
     record { value = sym (ap answer done); after = sym (ap (λ o. left o c.args.code.now) done); same = refl }
