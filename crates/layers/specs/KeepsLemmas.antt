@@ -12,6 +12,9 @@ use Rattle.alphabets.specs.Alphabets.{radix_of}
 use Rattle.formats.specs.Codes.{Code}
 use Rattle.formats.specs.Forms.{Form}
 use Rattle.ciphers.specs.Meanings.{Meaning, Free, Undone, Laws}
+use Rattle.ciphers.specs.declared.way.Way.{Way}
+use Rattle.ciphers.specs.declared.way.Way.TheVariants.{Forward, Backward}
+use Rattle.ciphers.specs.Ways.{map_of}
 use Rattle.ciphers.specs.Swaps.{checked, refused, unless_barred, swap, answer, left, barred_past, passed_up}
 use Rattle.ciphers.proofs.Checked.{passed, passing, swap_refused, swap_checked, open_below}
 use Rattle.layers.specs.Keeps.{shorter, keeping}
@@ -77,10 +80,15 @@ keeps_prefix p m = record {
 rest_is : (p : ℕ) (c : List ℕ) → take (length c - p) (drop p c) ≡ drop p c
 rest_is p c = take_all (length c - p) (drop p c) (omega (arith, length-drop p c))
 
+-- the map of the layer, either way
+keeping_goes : (p : ℕ) (m : Meaning) (way : Way) (f : Form) (run c : List ℕ) → map_of (keeping p m) way f run c ≡ take p c ++ map_of m way (shorter p f) run (drop p c)
+keeping_goes p m Forward f run c = refl
+keeping_goes p m Backward f run c = refl
+
 -- a call that the checks refuse
-pub kept_refused : (p : ℕ) (m : Meaning) (go : Form → List ℕ → List ℕ → List ℕ) (f : Form) (run c : List ℕ) → true ≡ (keeping p m).taken f → {fault : Fault} → Err fault ≡ checked true f run c
-    → swap (keeping p m) (λ h r x. take p x ++ go (shorter p h) r (drop p x)) f run c ≡ refused fault
-kept_refused p m go f run c takes {fault} e = swap_refused (keeping p m) (λ h r x. take p x ++ go (shorter p h) r (drop p x)) f run c true takes fault e
+pub kept_refused : (p : ℕ) (m : Meaning) (way : Way) (f : Form) (run c : List ℕ) → true ≡ (keeping p m).taken f → {fault : Fault} → Err fault ≡ checked true f run c
+    → swap (keeping p m) (map_of (keeping p m) way) f run c ≡ refused fault
+kept_refused p m way f run c takes {fault} e = swap_refused (keeping p m) (map_of (keeping p m) way) f run c true takes fault e
 
 -- a prefix fits into a code that passes the checks
 pub fits : (p : ℕ) (m : Meaning) (f : Form) (run c : List ℕ) → true ≡ (keeping p m).taken f → Ok tt ≡ checked true f run c → p ≤ length c
@@ -89,10 +97,13 @@ fits p m f run c takes ok =
     omega (arith, ltb-true p f.len q.0, (passed true f run c ok).code.long)
 
 -- a call on a code that passes the checks, from what the cipher below promised of the rest
-module _ (p : ℕ) (m : Meaning) (go : Form → List ℕ → List ℕ → List ℕ) (f : Form) (run c : List ℕ) (takes : true ≡ (keeping p m).taken f) (ok : Ok tt ≡ checked true f run c)
+module _ (p : ℕ) (m : Meaning) (way : Way) (f : Form) (run c : List ℕ) (takes : true ≡ (keeping p m).taken f) (ok : Ok tt ≡ checked true f run c)
     (g : Form) (is : g ≡ shorter p f) where
+  abbrev go : Form → List ℕ → List ℕ → List ℕ
+  go = map_of m way
+
   abbrev whole_go : Form → List ℕ → List ℕ → List ℕ
-  whole_go h r x = take p x ++ go (shorter p h) r (drop p x)
+  whole_go = map_of (keeping p m) way
 
   abbrev barred : Option ℕ
   barred = m.barred (shorter p f) (drop p c)
@@ -104,7 +115,7 @@ module _ (p : ℕ) (m : Meaning) (go : Form → List ℕ → List ℕ → List �
   slice = take (length c - p) (drop p c)
 
   above : swap (keeping p m) whole_go f run c ≡ unless_barred (barred_past barred) (take p c ++ image)
-  above = swap_checked (keeping p m) whole_go f run c true takes ok
+  above = swap_checked (keeping p m) whole_go f run c true takes ok ∙ ap (unless_barred (barred_past barred)) (keeping_goes p m way f run c)
 
   below : swap m go g run slice ≡ unless_barred barred image
   below =

@@ -1,10 +1,14 @@
 // Two ciphers side by side: the first of them that takes a shape swaps its codes.
 ghost use Rattle.std.specs.Prelude.{◌≡◌};
+ghost use Rattle.formats.specs.Shapes.{form};
+ghost use Rattle.ciphers.specs.Swaps.{swap, answer, left};
+ghost use Rattle.ciphers.specs.Ways.{map_of};
 ghost use Rattle.layers.specs.Firsts.{preferring};
 ghost use Rattle.layers.specs.FirstsLemmas.{first_laws};
 
 use ciphers::checks::{check, pass_up};
 use ciphers::cipher::FormatCipher;
+use ciphers::way::{Way, swap};
 use faults::fault::Fault;
 use formats::shape::Shape;
 
@@ -36,20 +40,26 @@ impl<L: FormatCipher, R: FormatCipher> FormatCipher for FirstOf<L, R> {
     }
 
     fn forward(&mut self, shape: &Shape, run: &[u8], code: &mut [u8]) -> Result<(), Fault> {
-        if self.left.takes(shape) {
-            check(true, shape, run, code)?;
-            return pass_up(self.left.forward(shape, run, code));
-        }
-        check(self.right.takes(shape), shape, run, code)?;
-        pass_up(self.right.forward(shape, run, code))
+        self.swap(Way::Forward, shape, run, code)
     }
 
     fn backward(&mut self, shape: &Shape, run: &[u8], code: &mut [u8]) -> Result<(), Fault> {
+        self.swap(Way::Backward, shape, run, code)
+    }
+}
+
+impl<L: FormatCipher, R: FormatCipher> FirstOf<L, R> {
+    // Swaps by the first that takes the shape, one way or the other.
+    fn swap(&mut self, way: Way, shape: &Shape, run: &[u8], code: &mut [u8]) -> Result<(), Fault>
+        ensures value { let m = preferring (L.FormatCipher.meaning self.old.left) (R.FormatCipher.meaning self.old.right) in result ≡ answer (swap m (map_of m way) (form shape.now) run.now code.old) }
+        ensures after { let m = preferring (L.FormatCipher.meaning self.old.left) (R.FormatCipher.meaning self.old.right) in code.new ≡ left (swap m (map_of m way) (form shape.now) run.now code.old) code.old }
+        ensures same { preferring (L.FormatCipher.meaning self.new.left) (R.FormatCipher.meaning self.new.right) ≡ preferring (L.FormatCipher.meaning self.old.left) (R.FormatCipher.meaning self.old.right) }
+    {
         if self.left.takes(shape) {
             check(true, shape, run, code)?;
-            return pass_up(self.left.backward(shape, run, code));
+            return pass_up(swap(&mut self.left, way, shape, run, code));
         }
         check(self.right.takes(shape), shape, run, code)?;
-        pass_up(self.right.backward(shape, run, code))
+        pass_up(swap(&mut self.right, way, shape, run, code))
     }
 }

@@ -2,6 +2,5 @@
 #![tactic(auto)]
 
 pub mod laws;
-pub mod mask;
 pub mod round_trip;
-pub mod unmask;
+pub mod swap;

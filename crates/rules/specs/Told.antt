@@ -1,9 +1,9 @@
 -- The rules say yes to codes alone, and to which. Assumes nothing.
 use Rattle.std.specs.Prelude.{◌≡◌, ℕ, ◌+◌, ◌%◌, ◌<◌, ◌≤◌, Bool, true, false, not, ◌&&◌, List, [], ◌∷◌, length, drop, is_ok, Ok, Err, Result, ◌==◌, ◌≢◌, nat_eq, slice_index, refl}
 use Rattle.std.proofs.Math.Path.{sym, ap}
-use Rattle.std.proofs.Common.{◌∙◌, arith}
+use Rattle.std.proofs.Common.{◌∙◌, inl, inr, arith}
 use Rattle.std.proofs.lemmas.List.{at_drop_more, at_drop_all}
-use Rattle.std.proofs.lemmas.Bool.{and_parts, and_from, and_left, and_right, eq-eqb, eqb-true, eqb-false, ne_eqb, not-true, not_from_false, false≢true}
+use Rattle.std.proofs.lemmas.Bool.{cases_eq, and_parts, and_from, and_left, and_right, eq-eqb, eqb-true, eqb-false, ne_eqb, not-true, not_from_false, false≢true}
 use Rattle.alphabets.specs.declared.alphabet.Alphabet.{Alphabet}
 use Rattle.alphabets.specs.declared.alphabet.Alphabet.TheVariants.{Decimal, Hex, Upper, Alphanumeric}
 use Rattle.faults.specs.declared.fault.Fault.{Fault}
@@ -116,14 +116,23 @@ pub first_some : (c : List ℕ) → 1 ≤ length c → not (slice_index c 0 == 0
 first_some [] h = absurd (omega arith)
 first_some (x ∷ xs) h = refl
 
+-- the digits at even places, counted from 0, are doubled
+by_turns : (i : ℕ) → not (i % 2 == 0) ≡ ((i + 1) % 2 == 0)
+by_turns i =
+    elim (cases_eq (i % 2) 0) [
+      | inl even ↦ ap not (eq-eqb _ _ even) ∙ sym (ne_eqb ((i + 1) % 2) 0 (λ e. omega arith))
+      | inr odd ↦ ap not (ne_eqb _ _ odd) ∙ sym (eq-eqb ((i + 1) % 2) 0 (omega arith))
+    ]
+
 -- one more digit
-pub sum_more : (c : List ℕ) (i sum : ℕ) (doubled : Bool) (w : ℕ) → i < length c → w ≡ weight doubled (slice_index c i) →
-    sum + weighted_sum doubled (drop i c) ≡ luhn_sum c → sum + w + weighted_sum (not doubled) (drop (i + 1) c) ≡ luhn_sum c
-sum_more c i sum doubled w h e inv =
-    let step = at_drop_more (weighted_sum doubled) c i 0 h in
+pub sum_more : (c : List ℕ) (i sum w : ℕ) → i < length c → w ≡ weight (i % 2 == 0) (slice_index c i) →
+    sum + weighted_sum (i % 2 == 0) (drop i c) ≡ luhn_sum c → sum + w + weighted_sum ((i + 1) % 2 == 0) (drop (i + 1) c) ≡ luhn_sum c
+sum_more c i sum w h e inv =
+    let step = at_drop_more (weighted_sum (i % 2 == 0)) c i 0 h in
+    let turn = ap (λ b. weighted_sum b (drop (i + 1) c)) (by_turns i) in
     omega arith
 
-pub sum_all : (c : List ℕ) (i sum : ℕ) (doubled : Bool) → length c ≤ i → sum + weighted_sum doubled (drop i c) ≡ luhn_sum c → sum ≡ luhn_sum c
-sum_all c i sum doubled h inv =
-    let none = at_drop_all (weighted_sum doubled) c i h in
+pub sum_all : (c : List ℕ) (i sum : ℕ) → length c ≤ i → sum + weighted_sum (i % 2 == 0) (drop i c) ≡ luhn_sum c → sum ≡ luhn_sum c
+sum_all c i sum h inv =
+    let none = at_drop_all (weighted_sum (i % 2 == 0)) c i h in
     omega arith

@@ -7,6 +7,7 @@ use formats::code::check;
 use formats::shape::Shape;
 
 // Is it a code of the shape? A rule says no to every other string.
+#[tactic(auto, unfolding(crate::specs::Rules::is_code))]
 pub(crate) fn is_code(shape: &Shape, code: &[u8]) -> bool
     ensures { result ≡ is_code (form shape.now) code.now }
 {

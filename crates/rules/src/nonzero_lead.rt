@@ -16,9 +16,6 @@ impl Rule for NonzeroLead {
     ghost coded = { λ s f c. lead_only f c };
 
     fn allows(&self, shape: &Shape, code: &[u8]) -> bool {
-        if !is_code(shape, code) {
-            return false;
-        }
-        code[0] != 0
+        is_code(shape, code) && code[0] != 0
     }
 }

@@ -8,9 +8,10 @@ use Rattle.formats.specs.Forms.{Form}
 use Rattle.ciphers.specs.Meanings.{Meaning, Free, Undone, Laws}
 use Rattle.ciphers.specs.Swaps.{checked, refused, swapped, unless_barred, unless_refused, swap, answer, left, barred_past, passed_up}
 use Rattle.ciphers.proofs.Checked.{Passed, passed, passing, swap_passed, swap_checked}
-use Rattle.walk.specs.Calls.{unless_denied, admitted, map_of, First, OnTheWay}
-use Rattle.walk.specs.declared.cycle.steps.Way.{Way}
-use Rattle.walk.specs.declared.cycle.steps.Way.TheVariants.{Forward, Backward}
+use Rattle.ciphers.specs.Ways.{map_of}
+use Rattle.walk.specs.Calls.{unless_denied, admitted, First, OnTheWay}
+use Rattle.ciphers.specs.declared.way.Way.{Way}
+use Rattle.ciphers.specs.declared.way.Way.TheVariants.{Forward, Backward}
 use Rattle.walk.specs.Walks.{Allowed, times, denied_count, few_codes, barred_by, sought, walked_by, walking}
 use Rattle.walk.specs.Cycles.{seek_first, first_later, swaps_left, left_first}
 use Rattle.walk.specs.Walked.{reaches}
@@ -34,7 +35,7 @@ abbrev pub undoing : Way → Meaning → Form → List ℕ → List ℕ → List
 undoing Forward m = m.backward
 undoing Backward m = m.forward
 
-pub way_law : (way : Way) (m : Meaning) → Laws m → (f : Form) (run : List ℕ) → m.taken f ≡ true → Undone m f (map_of way m f run) (undoing way m f run)
+pub way_law : (way : Way) (m : Meaning) → Laws m → (f : Form) (run : List ℕ) → m.taken f ≡ true → Undone m f (map_of m way f run) (undoing way m f run)
 way_law Forward m laws f run t = laws.onward f run t
 way_law Backward m laws f run t = laws.homeward f run t
 

@@ -1,6 +1,5 @@
 -- The steps of a call of the walk. Assumes nothing.
 --   admitted  what is refused before the first swap: what every cipher refuses by itself, and then what the rule denies
---   map_of    the map of a meaning that swaps one way
 --   outcome   what a swap by the walk gives, one way
 --   First     the number of swaps after which a rule first says yes
 --   Reaches   it does so after a number of swaps at most
@@ -13,8 +12,8 @@ use Rattle.formats.specs.Forms.{Form}
 use Rattle.alphabets.specs.RunNames.{legal}
 use Rattle.ciphers.specs.Meanings.{Meaning, Free}
 use Rattle.ciphers.specs.Swaps.{checked, Outcome, swap}
-use Rattle.walk.specs.declared.cycle.steps.Way.{Way}
-use Rattle.walk.specs.declared.cycle.steps.Way.TheVariants.{Forward, Backward}
+use Rattle.ciphers.specs.declared.way.Way.{Way}
+use Rattle.ciphers.specs.Ways.{map_of}
 use Rattle.walk.specs.Walks.{Allowed, times, denied_count, walked_by, walking}
 
 abbrev pub unless_denied : Result Unit Fault → Bool → Result Unit Fault
@@ -24,12 +23,8 @@ unless_denied (Err fault) says = Err fault
 unfoldable pub admitted : Bool → Bool → Form → List ℕ → List ℕ → Result Unit Fault
 admitted taken says f run c = unless_denied (checked taken f run c) says
 
-abbrev pub map_of : Way → Meaning → Form → List ℕ → List ℕ → List ℕ
-map_of Forward m = m.forward
-map_of Backward m = m.backward
-
 abbrev pub outcome : Way → Meaning → Allowed → Form → List ℕ → List ℕ → Outcome
-outcome way m allowed = swap (walking m allowed) (walked_by m allowed (map_of way m))
+outcome way m allowed = swap (walking m allowed) (walked_by m allowed (map_of m way))
 
 pub record First (go : List ℕ → List ℕ) (says : List ℕ → Bool) (c : List ℕ) (n : ℕ) : Type 0 where
   pub reached : says (times go n c) ≡ true

@@ -1,12 +1,15 @@
 // The layer that keeps a prefix, as a cipher over formats.
 ghost use Rattle.std.specs.Prelude.{◌≡◌, ◌<◌, ◌≤◌, is_some, MatchOption};
 ghost use Rattle.formats.specs.Shapes.{form};
+ghost use Rattle.ciphers.specs.Swaps.{swap, answer, left};
+ghost use Rattle.ciphers.specs.Ways.{map_of};
 ghost use Rattle.layers.specs.Keeps.{shorter, shorter_rounds, keeping};
 ghost use Rattle.layers.specs.KeepsLemmas.{keep_laws};
 
 use crate::keep_prefix::KeepPrefix;
 use ciphers::checks::{check, pass_up};
 use ciphers::cipher::FormatCipher;
+use ciphers::way::{Way, swap};
 use faults::fault::Fault;
 use formats::rounds::fewest_rounds;
 use formats::shape::Shape;
@@ -21,42 +24,35 @@ impl<T: FormatCipher> FormatCipher for KeepPrefix<T> {
     }
 
     fn forward(&mut self, shape: &Shape, run: &[u8], code: &mut [u8]) -> Result<(), Fault> {
-        let from = self.kept as usize;
-        match self.taken_below(shape) {
-            None => check(false, shape, run, code),
-            Some(rest) => {
-                check(true, shape, run, code)?;
-                let part = &mut code[from..];
-                pass_up(self.below.forward(&rest, run, part))
-            }
-        }
+        self.swap(Way::Forward, shape, run, code)
     }
 
     fn backward(&mut self, shape: &Shape, run: &[u8], code: &mut [u8]) -> Result<(), Fault> {
-        let from = self.kept as usize;
-        match self.taken_below(shape) {
-            None => check(false, shape, run, code),
-            Some(rest) => {
-                check(true, shape, run, code)?;
-                let part = &mut code[from..];
-                pass_up(self.below.backward(&rest, run, part))
-            }
-        }
+        self.swap(Way::Backward, shape, run, code)
     }
 }
 
 impl<T: FormatCipher> KeepPrefix<T> {
+    // Swaps what is left past the symbols that stay, one way or the other.
+    fn swap(&mut self, way: Way, shape: &Shape, run: &[u8], code: &mut [u8]) -> Result<(), Fault>
+        ensures value { let m = keeping self.old.kept (T.FormatCipher.meaning self.old.below) in result ≡ answer (swap m (map_of m way) (form shape.now) run.now code.old) }
+        ensures after { let m = keeping self.old.kept (T.FormatCipher.meaning self.old.below) in code.new ≡ left (swap m (map_of m way) (form shape.now) run.now code.old) code.old }
+        ensures same { keeping self.new.kept (T.FormatCipher.meaning self.new.below) ≡ keeping self.old.kept (T.FormatCipher.meaning self.old.below) }
+    {
+        let Some(rest) = self.taken_below(shape) else {
+            return check(false, shape, run, code);
+        };
+        check(true, shape, run, code)?;
+        let part = &mut code[self.kept as usize..];
+        pass_up(swap(&mut self.below, way, &rest, run, part))
+    }
+
     // The shape of what is left past the symbols that stay, where the cipher below takes it.
     fn taken_below(&self, shape: &Shape) -> Option<Shape>
         ensures takes { is_some result ≡ (keeping self.now.kept (T.FormatCipher.meaning self.now.below)).taken (form shape.now) }
         ensures rest { MatchOption result Unit (λ s. form s ≡ shorter self.now.kept (form shape.now)) }
     {
-        let rest = rest_shape(self.kept, shape)?;
-        if self.below.takes(&rest) {
-            Some(rest)
-        } else {
-            None
-        }
+        rest_shape(self.kept, shape).filter(|rest| self.below.takes(rest))
     }
 }
 

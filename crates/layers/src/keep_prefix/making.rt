@@ -12,7 +12,7 @@ impl<T: Drop> KeepPrefix<T> {
     pub fn new(kept: u8, below: T) -> Result<KeepPrefix<T>, Fault>
         ensures { MatchResult result (λ k. (k.kept ≡ kept) × (k.below ≡ below) × Keepable kept) (λ fault. (fault ≡ own Range) × (Keepable kept → ⊥)) }
     {
-        if kept < 1 || kept > 31 {
+        if !(1..=31).contains(&kept) {
             return Err(Fault::own(Cause::Range));
         }
         Ok(KeepPrefix { kept, below })

@@ -8,9 +8,9 @@ ghost use Rattle.walk.specs.Walked.{walk_laws};
 
 use crate::count::has_few_codes;
 use crate::cycle::CycleWalk;
-use crate::cycle::steps::{Way, admit, swap_below, walk_on};
 use ciphers::checks::pass_up;
 use ciphers::cipher::FormatCipher;
+use ciphers::way::{Way, swap};
 use faults::fault::Fault;
 use formats::shape::Shape;
 use rules::rule::Rule;
@@ -42,10 +42,9 @@ impl<T: FormatCipher, R: Rule> CycleWalk<T, R> {
         ensures after { code.new ≡ left (outcome way (T.FormatCipher.meaning self.old.below) (R.Rule.allowed self.old.rule) (form shape.now) run.now code.old) code.old }
         ensures same { walking (T.FormatCipher.meaning self.new.below) (R.Rule.allowed self.new.rule) ≡ walking (T.FormatCipher.meaning self.old.below) (R.Rule.allowed self.old.rule) }
     {
-        let taken = self.takes(shape);
-        admit(taken, &self.rule, shape, run, code)?;
-        pass_up(swap_below(way, &mut self.below, shape, run, code))?;
-        walk_on(way, &mut self.below, &self.rule, shape, run, code);
+        self.admit(shape, run, code)?;
+        pass_up(swap(&mut self.below, way, shape, run, code))?;
+        self.walk_on(way, shape, run, code);
         Ok(())
     }
 }

@@ -4,7 +4,7 @@ use Rattle.formats.specs.Shapes.{form}
 use Rattle.ciphers.specs.Swaps.{answer, left}
 use Rattle.layers.specs.Firsts.{preferring}
 use Rattle.layers.specs.FirstsLemmas.{left_refused, left_value, left_after, right_refused, right_value, right_after}
-use Rattle.layers.proofs.first_of.FirstOfFormatCipher.forward.Goals as goal
+use Rattle.layers.proofs.first_of.FirstOf.swap.Goals as goal
 
 pub returns-in_err-check : goal.returns-in_err-check
 returns-in_err-check g c =
@@ -12,7 +12,7 @@ returns-in_err-check g c =
     let r = g.R.FormatCipher.meaning c.args.self.now.right in
     let code = c.args.code.now in
     let p = err_from_is_err_and c.from_residual.result c.from_residual.ensures.1 in
-    let is = left_refused l r l.forward r.forward (form c.args.shape.now) c.args.run.now code c.if-takes.ensures c.in_err-check.ensures in
+    let is = left_refused l r c.args.way (form c.args.shape.now) c.args.run.now code c.if-takes.ensures c.in_err-check.ensures in
     record { value = p.1 ∙ ap Err p.2 ∙ sym (ap answer is); after = sym (ap (λ o. left o code) is); same = refl {a = preferring l r} }
 
 pub returns-then-takes : goal.returns-then-takes
@@ -23,9 +23,9 @@ returns-then-takes g c =
     let takes = c.if-takes.ensures in
     let ok = c.in_ok-check.ensures in
     record {
-      value = c.pass_up.ensures ∙ left_value l r l.forward r.forward f c.args.run.now c.args.code.now takes ok c.forward.ensures.value;
-      after = left_after l r l.forward r.forward f c.args.run.now c.args.code.now takes ok c.forward.ensures.after;
-      same = ap (λ m. preferring m r) c.forward.ensures.same;
+      value = c.pass_up.ensures ∙ left_value l r c.args.way f c.args.run.now c.args.code.now takes ok c.swap.ensures.value;
+      after = left_after l r c.args.way f c.args.run.now c.args.code.now takes ok c.swap.ensures.after;
+      same = ap (λ m. preferring m r) c.swap.ensures.same;
     }
 
 pub returns-in_err-check-2 : goal.returns-in_err-check-2
@@ -34,7 +34,7 @@ returns-in_err-check-2 g c =
     let r = g.R.FormatCipher.meaning c.args.self.now.right in
     let code = c.args.code.now in
     let p = err_from_is_err_and c.from_residual-in_err-check-2.result c.from_residual-in_err-check-2.ensures.1 in
-    let is = right_refused l r l.forward r.forward (form c.args.shape.now) c.args.run.now code c.if-takes.ensures c.takes-2.ensures c.in_err-check-2.ensures in
+    let is = right_refused l r c.args.way (form c.args.shape.now) c.args.run.now code c.if-takes.ensures c.takes-2.ensures c.in_err-check-2.ensures in
     record { value = p.1 ∙ ap Err p.2 ∙ sym (ap answer is); after = sym (ap (λ o. left o code) is); same = refl {a = preferring l r} }
 
 pub returns : goal.returns
@@ -46,7 +46,7 @@ returns g c =
     let takes = c.takes-2.ensures in
     let ok = c.in_ok-check-2.ensures in
     record {
-      value = c.pass_up-2.ensures ∙ right_value l r l.forward r.forward f c.args.run.now c.args.code.now out takes ok c.forward-2.ensures.value;
-      after = right_after l r l.forward r.forward f c.args.run.now c.args.code.now out takes ok c.forward-2.ensures.after;
-      same = ap (preferring l) c.forward-2.ensures.same;
+      value = c.pass_up-2.ensures ∙ right_value l r c.args.way f c.args.run.now c.args.code.now out takes ok c.swap-2.ensures.value;
+      after = right_after l r c.args.way f c.args.run.now c.args.code.now out takes ok c.swap-2.ensures.after;
+      same = ap (preferring l) c.swap-2.ensures.same;
     }

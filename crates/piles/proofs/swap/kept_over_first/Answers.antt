@@ -2,9 +2,10 @@ use Rattle.std.proofs.Common.{Err, ap, ◌∙◌}
 use Rattle.std.proofs.lemmas.Result.{err_from_is_err_and}
 use Rattle.formats.specs.Shapes.{form}
 use Rattle.codebook.specs.Codebooks.{book}
+use Rattle.ciphers.specs.Ways.{map_of}
 use Rattle.piles.specs.Piles.{kept_over_first_pile}
 use Rattle.piles.proofs.Piled.{unkept_value, unkept_after, kept_value, kept_after, same_first}
-use Rattle.piles.proofs.mask.kept_over_first.Goals as goal
+use Rattle.piles.proofs.swap.kept_over_first.Goals as goal
 
 pub returns-in_err-keep : goal.returns-in_err-keep
 returns-in_err-keep c =
@@ -15,8 +16,8 @@ returns-in_err-keep c =
     let why = c.in_err-keep.ensures in
     let p = err_from_is_err_and c.from_residual.result c.from_residual.ensures.1 in
     record {
-      value = p.1 ∙ ap Err (p.2 ∙ why.0) ∙ unkept_value c.args.kept pile (λ m. m.forward) f run code why.1;
-      after = unkept_after c.args.kept pile (λ m. m.forward) f run code why.1;
+      value = p.1 ∙ ap Err (p.2 ∙ why.0) ∙ unkept_value c.args.kept pile (λ m. map_of m c.args.way) f run code why.1;
+      after = unkept_after c.args.kept pile (λ m. map_of m c.args.way) f run code why.1;
     }
 
 pub returns : goal.returns
@@ -32,6 +33,6 @@ returns c =
     let here = kept_over_first_pile keep.kept (book keep.below.left.below) (book keep.below.right) in
     let same = same_first keep.kept c.args.kept keep.below.left.below c.args.walked keep.below.right c.args.other made.0 walked other in
     record {
-      value = kept_value c.args.kept pile (λ m. m.forward) f run code made.2 here same c.forward.result c.forward.ensures.value;
-      after = kept_after c.args.kept pile (λ m. m.forward) f run code made.2 here same c.forward.new.code c.forward.ensures.after;
+      value = kept_value c.args.kept pile (λ m. map_of m c.args.way) f run code made.2 here same c.swap.result c.swap.ensures.value;
+      after = kept_after c.args.kept pile (λ m. map_of m c.args.way) f run code made.2 here same c.swap.new.code c.swap.ensures.after;
     }

@@ -2,9 +2,10 @@ use Rattle.std.proofs.Common.{Err, ap, ◌∙◌}
 use Rattle.std.proofs.lemmas.Result.{err_from_is_err_and}
 use Rattle.formats.specs.Shapes.{form}
 use Rattle.ciphers.specs.Held.{network_of}
+use Rattle.ciphers.specs.Ways.{map_of}
 use Rattle.piles.specs.Piles.{nonzero_over_kept_pile}
 use Rattle.piles.proofs.Piled.{unkept_value, unkept_after, kept_value, kept_after, same_kept}
-use Rattle.piles.proofs.unmask.nonzero_over_kept.Goals as goal
+use Rattle.piles.proofs.swap.nonzero_over_kept.Goals as goal
 
 pub returns-in_err-keep : goal.returns-in_err-keep
 returns-in_err-keep c =
@@ -15,8 +16,8 @@ returns-in_err-keep c =
     let why = c.in_err-keep.ensures in
     let p = err_from_is_err_and c.from_residual.result c.from_residual.ensures.1 in
     record {
-      value = p.1 ∙ ap Err (p.2 ∙ why.0) ∙ unkept_value c.args.kept pile (λ m. m.backward) f run code why.1;
-      after = unkept_after c.args.kept pile (λ m. m.backward) f run code why.1;
+      value = p.1 ∙ ap Err (p.2 ∙ why.0) ∙ unkept_value c.args.kept pile (λ m. map_of m c.args.way) f run code why.1;
+      after = unkept_after c.args.kept pile (λ m. map_of m c.args.way) f run code why.1;
     }
 
 pub returns : goal.returns
@@ -31,6 +32,6 @@ returns c =
     let here = nonzero_over_kept_pile keep.kept (network_of keep.below) in
     let same = same_kept keep.kept c.args.kept keep.below c.args.network (ap (λ k. k.kept) below ∙ made.0) (ap (λ k. k.below) below ∙ made.1) in
     record {
-      value = kept_value c.args.kept pile (λ m. m.backward) f run code made.2 here same c.backward.result c.backward.ensures.value;
-      after = kept_after c.args.kept pile (λ m. m.backward) f run code made.2 here same c.backward.new.code c.backward.ensures.after;
+      value = kept_value c.args.kept pile (λ m. map_of m c.args.way) f run code made.2 here same c.swap.result c.swap.ensures.value;
+      after = kept_after c.args.kept pile (λ m. map_of m c.args.way) f run code made.2 here same c.swap.new.code c.swap.ensures.after;
     }
