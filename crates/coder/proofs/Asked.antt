@@ -1,7 +1,9 @@
 -- A text that a coder hands to its cipher, way by way. Assumes nothing.
-use Rattle.std.proofs.Common.{◌≡◌, ℕ, Bool, true, false, cond, List, Some, None, Ok, Err, Option, sym, refl, ap, ◌∙◌, arith}
+use Rattle.std.proofs.Common.{◌≡◌, ℕ, true, false, List, is_some, Some, None, Ok, Err, Option, sym, refl, ap, ◌∙◌, arith}
+use Rattle.std.specs.Option.{option_map}
+use Rattle.std.proofs.lemmas.Bool.{cond-true, cond-false}
 use Rattle.alphabets.specs.declared.alphabet.Alphabet.{Alphabet}
-use Rattle.faults.specs.declared.fault.Cause.TheVariants.{Lane}
+use Rattle.faults.specs.declared.fault.Cause.TheVariants.{Lane, LaneHasRun, LaneHasNoRun}
 use Rattle.faults.specs.declared.fault.Fault.{Fault}
 use Rattle.formats.specs.Codes.{text_verdict, as_symbols, as_bytes}
 use Rattle.faults.specs.Faults.{own}
@@ -9,15 +11,35 @@ use Rattle.formats.specs.Forms.{Form, remade}
 use Rattle.formats.proofs.Texts.{back_and_forth}
 use Rattle.ciphers.specs.Meanings.{Meaning}
 use Rattle.ciphers.specs.Swaps.{Outcome, refused, swapped, unless_refused, swap, answer, left, passed_up}
-use Rattle.coder.specs.Machine.{Held, is_lane, on_lane, if_held}
-use Rattle.coder.specs.Records.{running, or_no_run}
+use Rattle.coder.specs.Machine.{Held, is_lane, on_lane, if_free, if_held}
+use Rattle.coder.specs.declared.record.Record.{Record}
+use Rattle.coder.specs.Records.{named, running}
 use Rattle.coder.specs.Steps.{rebuilt, passed_on, asked_text}
 
--- a lane that has a run
-on_lane_lem : (b : Bool) (o : Option Held) (u : Held) (then : Held → Outcome) → Ok u ≡ cond b (or_no_run o) (Err (own Lane)) → cond b (if_held o then) (refused (own Lane)) ≡ then u
-on_lane_lem true None u then q = let z : ◌≡◌ {A = ℕ} 0 1 = cc in absurd (omega arith)
-on_lane_lem true (Some w) u then q = let e : w ≡ u = cc in ap then e
-on_lane_lem false o u then q = let z : ◌≡◌ {A = ℕ} 0 1 = cc in absurd (omega arith)
+-- a lane that has a run, and one that has none
+pub held_running : (o : Option Held) (u : Held) (then : Held → Outcome) → Ok u ≡ running o → if_held o then ≡ then u
+held_running None u then q = let z : ◌≡◌ {A = ℕ} 0 1 = cc in absurd (omega arith)
+held_running (Some w) u then q = let e : w ≡ u = cc in ap then e
+
+pub none_running : (o : Option Held) (fault : Fault) (then : Held → Outcome) → Err fault ≡ running o → if_held o then ≡ refused fault
+none_running None fault then q = let e : own LaneHasNoRun ≡ fault = cc in ap refused e
+none_running (Some w) fault then q = let z : ◌≡◌ {A = ℕ} 0 1 = cc in absurd (omega arith)
+
+-- a call on a lane, and one off the lanes
+pub on_it : (k : ℕ) (o : Outcome) → is_lane k ≡ true → on_lane k o ≡ o
+on_it k o e = cond-true (is_lane k) o (refused (own Lane)) e
+
+pub off_it : (k : ℕ) (o : Outcome) → is_lane k ≡ false → on_lane k o ≡ refused (own Lane)
+off_it k o e = cond-false (is_lane k) o (refused (own Lane)) e
+
+-- a lane with a record, and one without
+pub taken_lane : (r : Option Record) (u : Option Held) (o : Outcome) → option_map named r ≡ u → is_some r ≡ true → if_free u o ≡ refused (own LaneHasRun)
+taken_lane None u o e q = let z : ◌≡◌ {A = ℕ} 0 1 = cc in absurd (omega arith)
+taken_lane (Some r) u o e q = ap (λ v. if_free v o) (sym e)
+
+pub free_lane : (r : Option Record) (u : Option Held) (o : Outcome) → option_map named r ≡ u → is_some r ≡ false → if_free u o ≡ o
+free_lane None u o e q = ap (λ v. if_free v o) (sym e)
+free_lane (Some r) u o e q = let z : ◌≡◌ {A = ℕ} 0 1 = cc in absurd (omega arith)
 
 -- what the cipher gives, as it is passed on
 passed_answer : (a : Alphabet) (s : Outcome) → passed_up (answer s) ≡ answer (passed_on a s)
@@ -33,9 +55,9 @@ module _ (m : Meaning) (go : Form → List ℕ → List ℕ → List ℕ) (k : �
   abbrev given : Outcome
   given = on_lane k (if_held o (asked_text m go t))
 
-  module _ (u : Held) (runs : Ok u ≡ running k o) where
+  module _ (u : Held) (on : is_lane k ≡ true) (runs : Ok u ≡ running o) where
     under : given ≡ asked_text m go t u
-    under = on_lane_lem (is_lane k) o u (asked_text m go t) runs
+    under = on_it k (if_held o (asked_text m go t)) on ∙ held_running o u (asked_text m go t) runs
 
     pub not_made : (e : Fault) → Err e ≡ remade u.shape → given ≡ refused e
     unfolding asked_text

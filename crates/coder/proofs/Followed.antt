@@ -1,68 +1,72 @@
 -- What the calls of a coder give follows the reference machine. Assumes nothing.
-use Rattle.std.proofs.Common.{◌≡◌, ℕ, Bool, true, false, cond, List, [], ◌++◌, length, take, Some, None, Ok, Option, Result, sym, refl, ap, ◌∙◌, subst}
+use Rattle.std.proofs.Common.{◌≡◌, ℕ, List, [], ◌++◌, length, take, Ok, Err, Option, Result, sym, refl, ap, ◌∙◌, subst}
 use Rattle.std.proofs.lemmas.List.{take_at}
-use Rattle.faults.specs.declared.fault.Cause.TheVariants.{Lane, RunName, ShapeNotTaken}
+use Rattle.std.proofs.lemmas.Bool.{true≢false, cond-false}
 use Rattle.faults.specs.declared.fault.Fault.{Fault}
-use Rattle.formats.specs.declared.shape.Shape.{Shape}
-use Rattle.faults.specs.Faults.{own}
-use Rattle.alphabets.specs.RunNames.{legal}
-use Rattle.formats.specs.Shapes.{form}
+use Rattle.ciphers.specs.declared.way.Way.{Way}
+use Rattle.ciphers.specs.declared.way.Way.TheVariants.{Forward, Backward}
 use Rattle.ciphers.specs.Meanings.{Meaning}
-use Rattle.ciphers.specs.Swaps.{refused, answer, left}
-use Rattle.coder.specs.Calls.{Call, starts, ends, masks, unmasks, restarts, Reply, said, done}
-use Rattle.coder.specs.Handed.{Follows, Existing}
-use Rattle.coder.specs.Machine.{Held, is_lane, if_free, if_held}
-use Rattle.coder.specs.Steps.{lane_at, stepped}
-use Rattle.coder.proofs.Handed.{follows_by, remakes}
+use Rattle.ciphers.specs.Swaps.{Outcome, refused, answer, left}
+use Rattle.ciphers.specs.Ways.{map_of}
+use Rattle.coder.specs.declared.coder.Coder.{Coder}
+use Rattle.coder.specs.Called.{Called}
+use Rattle.coder.specs.Calls.{Call, starts, ends, masks, unmasks, restarts, turns, text_of, Reply, said, accepted, done}
+use Rattle.coder.specs.Handed.{Existing}
+use Rattle.coder.specs.Machine.{Held, on_lane, if_held}
+use Rattle.coder.specs.Steps.{lane_at, asked_text, lanes_after, stepped}
+use Rattle.coder.proofs.Handed.{follows_by}
 
-abbrev replied : Result Unit Fault → List ℕ → Reply
+abbrev pub replied : Result Unit Fault → List ℕ → Reply
 replied r t = record { answer = r; text = t }
 
--- a start and an end leave no text
-ended : (b : Bool) (u : Option Held) → left (cond b (if_held u (λ _. done)) (refused (own Lane))) [] ≡ []
-ended true None = refl
-ended true (Some u) = refl
-ended false u = refl
+-- a refused call leaves the lanes as they were
+still_lanes : (m : Meaning) (lanes : List (Option Held)) (c : Call) (fault : Fault) → (stepped m lanes c).outcome ≡ refused fault → (stepped m lanes c).lanes ≡ lanes
+still_lanes m lanes (starts k run f) fault e = let q = ap accepted e in cond-false _ _ lanes q
+still_lanes m lanes (ends k) fault e = let q = ap accepted e in cond-false _ _ lanes q
+still_lanes m lanes (masks k t) fault e = refl
+still_lanes m lanes (unmasks k t) fault e = refl
+still_lanes m lanes restarts fault e = absurd (true≢false (ap accepted e))
 
-started : (b l : Bool) (u : Option Held) (s : Bool) → left (cond b (cond l (if_free u (cond s done (refused (own ShapeNotTaken)))) (refused (own RunName))) (refused (own Lane))) [] ≡ []
-started true true None true = refl
-started true true None false = refl
-started true true (Some u) s = refl
-started true false u s = refl
-started false l u s = refl
+module _ {T : Type 0} (meaning : T → Meaning) (before : Coder T) where
+  abbrev gives : Call → Outcome
+  gives c = (stepped (meaning before.cipher) before.lanes c).outcome
 
-module _ (m : Meaning) (lanes after : List (Option Held)) where
-  -- the answer and the lanes after a call are those of its step
-  abbrev pub Steps : Call → Result Unit Fault → Type 0
-  Steps c r = (r ≡ answer (stepped m lanes c).outcome) × (after ≡ (stepped m lanes c).lanes)
+  pub called : (after : Coder T) (c : Call) (r : Reply) → Existing c → r ≡ said c (gives c) → after.lanes ≡ (stepped (meaning before.cipher) before.lanes c).lanes → meaning after.cipher ≡ meaning before.cipher →
+      Called meaning before after c r
+  called after c r exists reply lanes same = record {
+    reply = reply;
+    lanes = lanes;
+    same = same;
+    follows = follows_by (meaning before.cipher) before.lanes after.lanes c r exists lanes reply;
+  }
 
-  follows : (c : Call) (r : Result Unit Fault) (t left-text : List ℕ) → Existing c → Steps c r → t ≡ left-text → replied (answer (stepped m lanes c).outcome) left-text ≡ said c (stepped m lanes c).outcome → Follows m lanes after c (replied r t)
-  follows c r t left-text exists p e same =
-      follows_by m lanes after c (replied r t) exists p.1 (ap (λ x. replied x t) p.0 ∙ (ap (replied (answer (stepped m lanes c).outcome)) e ∙ same))
+  pub refused_call : (c : Call) (r : Result Unit Fault) (fault : Fault) → Existing c → r ≡ Err fault → gives c ≡ refused fault → Called meaning before before c (replied r (text_of c))
+  refused_call c r fault exists is e =
+      called before c (replied r (text_of c)) exists (ap (λ x. replied x (text_of c)) is ∙ sym (ap (said c) e)) (sym (still_lanes (meaning before.cipher) before.lanes c fault e)) refl
 
-  pub start_follows : (k : ℕ) (run : List ℕ) (s : Shape) (r : Result Unit Fault) → Steps (starts k run (form s)) r → Follows m lanes after (starts k run (form s)) (replied r [])
-  start_follows k run s r p =
-      let c = starts k run (form s) in
-      follows c r [] (left (stepped m lanes c).outcome []) (remakes s) p (sym (started (is_lane k) (legal run) (lane_at lanes k) (m.taken (form s)))) refl
+  pub done_call : (after : Coder T) (c : Call) → Existing c → gives c ≡ done → after.lanes ≡ lanes_after done before.lanes c → meaning after.cipher ≡ meaning before.cipher →
+      Called meaning before after c (replied (Ok tt) [])
+  done_call after c exists e lanes same =
+      called after c (replied (Ok tt) []) exists (sym (ap (said c) e)) (lanes ∙ sym (ap (λ o. lanes_after o before.lanes c) e)) same
 
-  pub end_follows : (k : ℕ) (r : Result Unit Fault) → Steps (ends k) r → Follows m lanes after (ends k) (replied r [])
-  end_follows k r p =
-      follows (ends k) r [] (left (stepped m lanes (ends k)).outcome []) tt p (sym (ended (is_lane k) (lane_at lanes k))) refl
+  -- a mask or an unmask
+  pub turned : (after : Coder T) (way : Way) (k : ℕ) (t : List ℕ) (r : Result Unit Fault) (s : List ℕ) →
+      let o = on_lane k (if_held (lane_at before.lanes k) (asked_text (meaning before.cipher) (map_of (meaning before.cipher) way) t)) in
+      r ≡ answer o → s ≡ left o t → after.lanes ≡ before.lanes → meaning after.cipher ≡ meaning before.cipher → Called meaning before after (turns way k t) (replied r s)
+  turned after Forward k t r s e f lanes same = called after (masks k t) (replied r s) tt (cc) lanes same
+  turned after Backward k t r s e f lanes same = called after (unmasks k t) (replied r s) tt (cc) lanes same
 
-  pub mask_follows : (k : ℕ) (t : List ℕ) (r : Result Unit Fault) (s : List ℕ) → Steps (masks k t) r → s ≡ left (stepped m lanes (masks k t)).outcome t → Follows m lanes after (masks k t) (replied r s)
-  mask_follows k t r s p e = follows (masks k t) r s (left (stepped m lanes (masks k t)).outcome t) tt p e refl
-
-  pub unmask_follows : (k : ℕ) (t : List ℕ) (r : Result Unit Fault) (s : List ℕ) → Steps (unmasks k t) r → s ≡ left (stepped m lanes (unmasks k t)).outcome t → Follows m lanes after (unmasks k t) (replied r s)
-  unmask_follows k t r s p e = follows (unmasks k t) r s (left (stepped m lanes (unmasks k t)).outcome t) tt p e refl
-
-  pub restart_follows : after ≡ (stepped m lanes restarts).lanes → Follows m lanes after restarts (replied (Ok tt) [])
-  restart_follows e = follows restarts (Ok tt) [] [] tt (refl, e) refl refl
+  pub refused_turn : (way : Way) (k : ℕ) (t : List ℕ) (r : Result Unit Fault) (fault : Fault) → r ≡ Err fault →
+      on_lane k (if_held (lane_at before.lanes k) (asked_text (meaning before.cipher) (map_of (meaning before.cipher) way) t)) ≡ refused fault →
+      Called meaning before before (turns way k t) (replied r t)
+  refused_turn Forward k t r fault is e = refused_call (masks k t) r fault tt is e
+  refused_turn Backward k t r fault is e = refused_call (unmasks k t) r fault tt is e
 
 -- the same of a call and a text that are equal to these
-pub carried : {m : Meaning} {a b : List (Option Held)} (c d : Call) (r : Result Unit Fault) (s t : List ℕ) → c ≡ d → s ≡ t → Follows m a b d (replied r t) → Follows m a b c (replied r s)
-carried {m} {a} {b} c d r s t e same f =
-    let P : Call → Type 0 = λ x. Follows m a b x (replied r s) in
-    let Q : List ℕ → Type 0 = λ x. Follows m a b d (replied r x) in
+pub carried : {T : Type 0} {meaning : T → Meaning} {a b : Coder T} (c d : Call) (r : Result Unit Fault) (s t : List ℕ) → c ≡ d → s ≡ t → Called meaning a b d (replied r t) → Called meaning a b c (replied r s)
+carried {T} {meaning} {a} {b} c d r s t e same f =
+    let P : Call → Type 0 = λ x. Called meaning a b x (replied r s) in
+    let Q : List ℕ → Type 0 = λ x. Called meaning a b d (replied r x) in
     subst P (sym e) (subst Q (sym same) f)
 
 -- a text that was swapped in a vector

@@ -1,5 +1,6 @@
 -- The calls of a coder, and what a call gives. Assumes nothing.
 --   Call      the five calls, with what each hands in
+--   turns     a mask or an unmask, by its way
 --   lane_of   the lane that a call names
 --   text_of   the text that a call hands in
 --   Reply     a call's result: its answer, and the text that it leaves
@@ -9,6 +10,8 @@
 use Rattle.std.specs.Prelude.{ℕ, Bool, true, false, List, [], Result}
 use Rattle.faults.specs.declared.fault.Fault.{Fault}
 use Rattle.formats.specs.Forms.{Form}
+use Rattle.ciphers.specs.declared.way.Way.{Way}
+use Rattle.ciphers.specs.declared.way.Way.TheVariants.{Forward, Backward}
 use Rattle.ciphers.specs.Swaps.{Outcome, refused, swapped, answer, left}
 
 -- a start names a lane, a run and a shape; a mask and an unmask a lane and a text
@@ -18,6 +21,10 @@ pub data Call : Type 0 where
   masks : ℕ → List ℕ → Call
   unmasks : ℕ → List ℕ → Call
   restarts : Call
+
+abbrev pub turns : Way → ℕ → List ℕ → Call
+turns Forward = masks
+turns Backward = unmasks
 
 -- a restart names none
 abbrev pub lane_of : Call → ℕ

@@ -3,8 +3,8 @@ pub mod Machine
 pub mod LastStart
 pub mod Steps
 pub mod Records
-pub mod Ways
 pub mod Handed
+pub mod Called
 pub mod Lists
 pub mod Law
 pub mod Entries

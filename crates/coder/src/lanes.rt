@@ -1,78 +1,64 @@
-// The eight lanes of a coder, each with its record.
-ghost use Rattle.std.specs.Prelude.{◌≡◌, ◌-◌, ◌≤◌, true, length, replicate, Some, None, slice_set};
-ghost use Rattle.formats.specs.Shapes.{form};
-ghost use Rattle.coder.specs.Machine.{held_of, is_lane};
-ghost use Rattle.coder.specs.Records.{view, views, seen, running};
+// The eight lanes of a coder.
+ghost use Rattle.std.specs.Prelude.{◌≡◌, ◌-◌, replicate, None, slice_set};
+ghost use Rattle.std.specs.Option.{option_map};
+ghost use Rattle.coder.specs.Records.{named, seen, running};
 ghost use Rattle.coder.specs.Steps.{lane_at};
 
-use crate::record::{FREE, Record};
+use crate::lane::Lane;
+use crate::record::Record;
 use faults::fault::{Cause, Fault};
-use formats::shape::Shape;
+use std::marker::Model;
 
-// Lane k is the k-th, counted from 1.
+// The record of each lane that has a run, in the order of the lanes.
 #[derive(Drop)]
 pub struct Lanes {
-    records: [Record; 8],
+    records: [Option<Record>; 8],
 }
 
-// Is it a lane: 1 to 8?
-pub(crate) fn is_lane(lane: u8) -> bool
-    ensures { result ≡ is_lane lane }
-{
-    lane >= 1 && lane <= 8
+// In contracts the lanes are what each is under: a run and a shape, or nothing.
+impl Model for Lanes {
+    ghost use Rattle.std.specs.Prelude.{List, Option};
+    ghost use Rattle.coder.specs.Machine.{Held};
+    ghost use Rattle.coder.specs.Records.{views};
+
+    ghost Value = { List (Option Held) };
+
+    ghost view = { λ l. views l.records };
 }
 
 impl Lanes {
     // Eight lanes without a run.
     pub(crate) fn new() -> Lanes
-        ensures { views result.records ≡ replicate 8 None }
+        ensures { result ≡ replicate 8 None }
     {
-        Lanes { records: [FREE; 8] }
+        Lanes { records: [None; 8] }
     }
 
-    // The record of a lane.
-    pub(crate) fn at(&self, lane: u8) -> Record
-        requires { is_lane lane ≡ true }
-        ensures { view result ≡ lane_at (views self.now.records) lane }
+    // The record of a lane, if it has a run.
+    pub(crate) fn at(&self, lane: Lane) -> Option<Record>
+        ensures { option_map named result ≡ lane_at self.now lane.number }
     {
-        self.records[(lane - 1) as usize]
+        self.records[lane.place()]
     }
 
     // The record of a lane that must have a run.
-    pub(crate) fn running(&self, lane: u8) -> Result<Record, Fault>
-        ensures { seen result ≡ running lane (lane_at (views self.now.records) lane) }
+    pub(crate) fn running(&self, lane: Lane) -> Result<Record, Fault>
+        ensures { seen result ≡ running (lane_at self.now lane.number) }
     {
-        if !is_lane(lane) {
-            return Err(Fault::own(Cause::Lane));
-        }
-        let record = self.at(lane);
-        if !record.live {
-            return Err(Fault::own(Cause::LaneHasNoRun));
-        }
-        Ok(record)
+        self.at(lane).ok_or(Fault::own(Cause::LaneHasNoRun))
     }
 
-    // Gives a lane a run and a shape.
-    pub(crate) fn put(&mut self, lane: u8, run: &[u8], shape: &Shape)
-        requires lane { is_lane lane ≡ true }
-        requires fits { length run.now ≤ 32 }
-        ensures { views self.new.records ≡ slice_set (views self.old.records) (lane - 1) (Some (held_of run.now (form shape.now))) }
+    // Gives a lane a run and a shape, or takes them away.
+    pub(crate) fn set(&mut self, lane: Lane, held: Option<Record>)
+        ensures { self.new ≡ slice_set self.old (lane.number - 1) (option_map named held) }
     {
-        self.records[(lane - 1) as usize] = Record::new(run, shape);
-    }
-
-    // Takes a lane's run away.
-    pub(crate) fn clear(&mut self, lane: u8)
-        requires { is_lane lane ≡ true }
-        ensures { views self.new.records ≡ slice_set (views self.old.records) (lane - 1) None }
-    {
-        self.records[(lane - 1) as usize] = FREE;
+        self.records[lane.place()] = held;
     }
 
     // Takes every run away.
     pub(crate) fn clear_all(&mut self)
-        ensures { views self.new.records ≡ replicate 8 None }
+        ensures { self.new ≡ replicate 8 None }
     {
-        self.records = [FREE; 8];
+        self.records = [None; 8];
     }
 }

@@ -2,7 +2,7 @@
 #![tactic(auto)]
 
 pub mod coder;
+mod lane;
 mod lanes;
 pub mod list;
 mod record;
-mod way;

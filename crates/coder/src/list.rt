@@ -3,10 +3,10 @@ ghost use Rattle.std.specs.Prelude.{◌≡◌, [], map};
 ghost use Rattle.std.specs.List.{AllByRecursion};
 ghost use Rattle.coder.specs.Calls.{text_of};
 ghost use Rattle.coder.specs.Entries.{call_of, asks, says, bare, still, Answered};
-ghost use Rattle.coder.specs.Handed.{Follows, Through};
+ghost use Rattle.coder.specs.Called.{Called};
+ghost use Rattle.coder.specs.Handed.{Through};
 ghost use Rattle.coder.specs.Law.{OneList, TwoLists};
 ghost use Rattle.coder.specs.Lists.{past};
-ghost use Rattle.coder.specs.Records.{views};
 
 use crate::coder::Coder;
 use ciphers::cipher::FormatCipher;
@@ -36,7 +36,7 @@ pub fn make_calls<T: FormatCipher>(cipher: T, list: &mut [Entry]) -> Coder<T>
     ensures law { OneList (T.FormatCipher.meaning cipher) (map asks list.old) (map says list.new) }
     ensures answered { AllByRecursion Answered list.new }
     ensures kept { map still list.new ≡ map still list.old }
-    ensures through { Through (T.FormatCipher.meaning cipher) (views result.lanes.records) (past (map asks list.old) []) }
+    ensures through { Through (T.FormatCipher.meaning cipher) result.lanes (past (map asks list.old) []) }
     ensures same { T.FormatCipher.meaning result.cipher ≡ T.FormatCipher.meaning cipher }
 {
     let mut coder = Coder::new(cipher);
@@ -56,7 +56,7 @@ pub fn make_two_lists<S: FormatCipher, T: FormatCipher>(
     ensures law { TwoLists (S.FormatCipher.meaning cipher) (T.FormatCipher.meaning other) (map asks list.old) (map asks others.old) (map says list.new) (map says others.new) }
     ensures answered { (AllByRecursion Answered list.new) × (AllByRecursion Answered others.new) }
     ensures kept { (map still list.new ≡ map still list.old) × (map still others.new ≡ map still others.old) }
-    ensures through { (Through (S.FormatCipher.meaning cipher) (views result.0.lanes.records) (past (map asks list.old) [])) × (Through (T.FormatCipher.meaning other) (views result.1.lanes.records) (past (map asks others.old) [])) }
+    ensures through { (Through (S.FormatCipher.meaning cipher) result.0.lanes (past (map asks list.old) [])) × (Through (T.FormatCipher.meaning other) result.1.lanes (past (map asks others.old) [])) }
     ensures same { (S.FormatCipher.meaning result.0.cipher ≡ S.FormatCipher.meaning cipher) × (T.FormatCipher.meaning result.1.cipher ≡ T.FormatCipher.meaning other) }
 {
     let first = make_calls(cipher, list);
@@ -66,8 +66,7 @@ pub fn make_two_lists<S: FormatCipher, T: FormatCipher>(
 
 // Makes one call.
 fn call<T: FormatCipher>(coder: &mut Coder<T>, command: &mut Command) -> Result<(), Fault>
-    ensures same { T.FormatCipher.meaning coder.new.cipher ≡ T.FormatCipher.meaning coder.old.cipher }
-    ensures follows { Follows (T.FormatCipher.meaning coder.old.cipher) (views coder.old.lanes.records) (views coder.new.lanes.records) (call_of command.old) (record { answer = result; text = text_of (call_of command.new) }) }
+    ensures called { Called T.FormatCipher.meaning coder.old coder.new (call_of command.old) (record { answer = result; text = text_of (call_of command.new) }) }
     ensures kept { bare (call_of command.new) ≡ bare (call_of command.old) }
 {
     match command {
@@ -84,8 +83,7 @@ fn call<T: FormatCipher>(coder: &mut Coder<T>, command: &mut Command) -> Result<
 
 // Makes the call of an entry, and answers it.
 fn make<T: FormatCipher>(coder: &mut Coder<T>, item: &mut Entry)
-    ensures same { T.FormatCipher.meaning coder.new.cipher ≡ T.FormatCipher.meaning coder.old.cipher }
-    ensures follows { Follows (T.FormatCipher.meaning coder.old.cipher) (views coder.old.lanes.records) (views coder.new.lanes.records) (asks item.old) (says item.new) }
+    ensures called { Called T.FormatCipher.meaning coder.old coder.new (asks item.old) (says item.new) }
     ensures answered { Answered item.new }
     ensures kept { still item.new ≡ still item.old }
 {

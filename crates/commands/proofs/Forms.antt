@@ -1,9 +1,10 @@
 -- The forms of lines, read word by word. Assumes nothing.
-use Rattle.std.proofs.Common.{◌≡◌, ℕ, ◌&&◌, List, [], ◌∷◌, Some, None, codes, Option, refl, ◌∙◌}
+use Rattle.std.proofs.Common.{◌≡◌, ℕ, ◌&&◌, List, [], ◌∷◌, Some, None, codes, Option, refl, ap, ◌∙◌}
+use Rattle.std.specs.Option.{option_map}
 use Rattle.commands.specs.Words.{filled, all_filled, lane_of, filled_in, lane_in, ended}
 use Rattle.commands.specs.Commands.{Spelled, start, end, mask, unmask, restart, read_words}
 use Rattle.text.specs.Readers.{first_of, rest_of}
-use Rattle.commands.proofs.Readings.{then, goes_on, stops, nothing, built, either_way}
+use Rattle.commands.proofs.Readings.{and_then, then, goes_on, stops, nothing, built, either_way}
 
 -- no word more
 abbrev pub finally : Spelled → List (List ℕ) → Option Spelled
@@ -28,12 +29,23 @@ start_form = then lane_in after_lane
 abbrev pub end_form : List (List ℕ) → Option Spelled
 end_form = then lane_in (λ k. finally (end k))
 
--- a mask or an unmask
-abbrev pub before_code : (ℕ → List ℕ → Spelled) → ℕ → List (List ℕ) → Option Spelled
-before_code kind k = then filled_in (λ code. finally (kind k code))
+-- after a lane and a code
+abbrev pub after_code : ℕ → List ℕ → List (List ℕ) → Option (ℕ × List ℕ)
+after_code k code = then ended (λ _ _. Some (k, code))
 
-abbrev pub code_form : (ℕ → List ℕ → Spelled) → List (List ℕ) → Option Spelled
-code_form kind = then lane_in (before_code kind)
+abbrev pub before_code : ℕ → List (List ℕ) → Option (ℕ × List ℕ)
+before_code k = then filled_in (after_code k)
+
+abbrev pub code_form : List (List ℕ) → Option (ℕ × List ℕ)
+code_form = then lane_in before_code
+
+paired : (kind : ℕ → List ℕ → Spelled) (code : List ℕ) (o : Option ℕ) → option_map (λ (p : ℕ × List ℕ). kind p.0 p.1) (and_then o (λ k. Some (k, code))) ≡ option_map (λ k. kind k code) o
+paired kind code None = refl
+paired kind code (Some k) = refl
+
+unpaired : (kind : ℕ → List ℕ → Spelled) (o : Option ℕ) → option_map (λ (p : ℕ × List ℕ). kind p.0 p.1) (and_then o (λ k. None)) ≡ None
+unpaired kind None = refl
+unpaired kind (Some k) = refl
 
 pub start_form_lem : (ws : List (List ℕ)) → start_form ws ≡ read_words (codes "S" ∷ ws)
 unfolding read_words
@@ -55,25 +67,29 @@ end_form_lem ((b ∷ bs) ∷ w ∷ []) = nothing (lane_of (b ∷ bs)) ∙ either
 end_form_lem ((b ∷ bs) ∷ w ∷ v ∷ []) = nothing (lane_of (b ∷ bs)) ∙ either_way (filled w && all_filled (v ∷ [])) None
 end_form_lem ((b ∷ bs) ∷ w ∷ v ∷ u ∷ us) = nothing (lane_of (b ∷ bs)) ∙ either_way (filled w && all_filled (v ∷ u ∷ us)) None
 
-pub mask_form : (ws : List (List ℕ)) → code_form mask ws ≡ read_words (codes "M" ∷ ws)
+mask_form : (ws : List (List ℕ)) → option_map (λ (p : ℕ × List ℕ). mask p.0 p.1) (code_form ws) ≡ read_words (codes "M" ∷ ws)
 unfolding read_words
 mask_form [] = refl
 mask_form ([] ∷ ws) = refl
-mask_form ((b ∷ bs) ∷ []) = nothing (lane_of (b ∷ bs))
-mask_form ((b ∷ bs) ∷ [] ∷ ws) = nothing (lane_of (b ∷ bs))
-mask_form ((b ∷ bs) ∷ (d ∷ ds) ∷ []) = built (λ k. mask k (d ∷ ds)) (lane_of (b ∷ bs))
-mask_form ((b ∷ bs) ∷ (d ∷ ds) ∷ w ∷ []) = nothing (lane_of (b ∷ bs)) ∙ either_way (filled w && all_filled []) None
-mask_form ((b ∷ bs) ∷ (d ∷ ds) ∷ w ∷ v ∷ vs) = nothing (lane_of (b ∷ bs)) ∙ either_way (filled w && all_filled (v ∷ vs)) None
+mask_form ((b ∷ bs) ∷ []) = unpaired mask (lane_of (b ∷ bs))
+mask_form ((b ∷ bs) ∷ [] ∷ ws) = unpaired mask (lane_of (b ∷ bs))
+mask_form ((b ∷ bs) ∷ (d ∷ ds) ∷ []) = paired mask (d ∷ ds) (lane_of (b ∷ bs))
+mask_form ((b ∷ bs) ∷ (d ∷ ds) ∷ w ∷ []) = unpaired mask (lane_of (b ∷ bs)) ∙ either_way (filled w && all_filled []) None
+mask_form ((b ∷ bs) ∷ (d ∷ ds) ∷ w ∷ v ∷ vs) = unpaired mask (lane_of (b ∷ bs)) ∙ either_way (filled w && all_filled (v ∷ vs)) None
 
-pub unmask_form : (ws : List (List ℕ)) → code_form unmask ws ≡ read_words (codes "U" ∷ ws)
+unmask_form : (ws : List (List ℕ)) → option_map (λ (p : ℕ × List ℕ). unmask p.0 p.1) (code_form ws) ≡ read_words (codes "U" ∷ ws)
 unfolding read_words
 unmask_form [] = refl
 unmask_form ([] ∷ ws) = refl
-unmask_form ((b ∷ bs) ∷ []) = nothing (lane_of (b ∷ bs))
-unmask_form ((b ∷ bs) ∷ [] ∷ ws) = nothing (lane_of (b ∷ bs))
-unmask_form ((b ∷ bs) ∷ (d ∷ ds) ∷ []) = built (λ k. unmask k (d ∷ ds)) (lane_of (b ∷ bs))
-unmask_form ((b ∷ bs) ∷ (d ∷ ds) ∷ w ∷ []) = nothing (lane_of (b ∷ bs)) ∙ either_way (filled w && all_filled []) None
-unmask_form ((b ∷ bs) ∷ (d ∷ ds) ∷ w ∷ v ∷ vs) = nothing (lane_of (b ∷ bs)) ∙ either_way (filled w && all_filled (v ∷ vs)) None
+unmask_form ((b ∷ bs) ∷ []) = unpaired unmask (lane_of (b ∷ bs))
+unmask_form ((b ∷ bs) ∷ [] ∷ ws) = unpaired unmask (lane_of (b ∷ bs))
+unmask_form ((b ∷ bs) ∷ (d ∷ ds) ∷ []) = paired unmask (d ∷ ds) (lane_of (b ∷ bs))
+unmask_form ((b ∷ bs) ∷ (d ∷ ds) ∷ w ∷ []) = unpaired unmask (lane_of (b ∷ bs)) ∙ either_way (filled w && all_filled []) None
+unmask_form ((b ∷ bs) ∷ (d ∷ ds) ∷ w ∷ v ∷ vs) = unpaired unmask (lane_of (b ∷ bs)) ∙ either_way (filled w && all_filled (v ∷ vs)) None
+
+-- a lane and a code that were read are those of a mask, and of an unmask
+pub both_ways : (o : Option (ℕ × List ℕ)) (ws : List (List ℕ)) → o ≡ code_form ws → (option_map (λ (p : ℕ × List ℕ). mask p.0 p.1) o ≡ read_words (codes "M" ∷ ws)) × (option_map (λ (p : ℕ × List ℕ). unmask p.0 p.1) o ≡ read_words (codes "U" ∷ ws))
+both_ways o ws e = (ap (option_map (λ (p : ℕ × List ℕ). mask p.0 p.1)) e ∙ mask_form ws, ap (option_map (λ (p : ℕ × List ℕ). unmask p.0 p.1)) e ∙ unmask_form ws)
 
 pub restart_form : (ws : List (List ℕ)) → finally restart ws ≡ read_words (codes "R" ∷ ws)
 unfolding read_words

@@ -1,9 +1,13 @@
 -- A line by its first word. Assumes nothing.
-use Rattle.std.proofs.Common.{◌≡◌, ℕ, ◌<◌, ◌≤◌, Bool, true, false, cond, eqb, leb, List, [], ◌∷◌, length, Some, None, codes, Option, sym, refl, ap, ◌∙◌, arith}
+use Rattle.std.proofs.Common.{◌≡◌, ℕ, ◌-◌, ◌<◌, ◌≤◌, Bool, true, false, ◌&&◌, cond, eqb, leb, List, [], ◌∷◌, length, Some, None, codes, Option, sym, refl, ap, ◌∙◌, add-zero, arith}
 use Rattle.std.proofs.lemmas.Bool.{cond-true, cond-false, le-leb, lt-leb, ne_eqb, and_left, and_right}
+use Rattle.alphabets.specs.declared.alphabet.Alphabet.TheVariants.{Decimal}
+use Rattle.alphabets.specs.Alphabets.{symbol_of}
+use Rattle.alphabets.proofs.Symbols.{symbol_by_spans}
+use Rattle.formats.specs.ShapeTexts.{digit_of}
 use Rattle.text.specs.Readers.{first_of, rest_of}
 use Rattle.text.specs.Words.{words_of}
-use Rattle.commands.specs.Words.{all_filled, is, filled_in, only_byte}
+use Rattle.commands.specs.Words.{all_filled, is, filled_in, only_byte, lane_of}
 use Rattle.commands.specs.Commands.{Spelled, command_of, read_words, spelled}
 
 pub too_long : (line : List ℕ) → 4096 < length line → None ≡ spelled line
@@ -26,6 +30,13 @@ pub byte_of_lem : (w : List ℕ) (b : ℕ) → Some b ≡ only_byte w → w ≡ 
 byte_of_lem [] b e = absurd (let z : ◌≡◌ {A = ℕ} 0 1 = cc in omega arith)
 byte_of_lem (d ∷ []) b e = let k : b ≡ d = cc in ap (λ x. x ∷ []) (sym k)
 byte_of_lem (d ∷ f ∷ more) b e = absurd (let z : ◌≡◌ {A = ℕ} 0 1 = cc in omega arith)
+
+-- a lane is the symbol that its one byte writes
+digit_is : (b : ℕ) → b < 256 → symbol_of Decimal b ≡ digit_of b
+digit_is b h = sym (symbol_by_spans Decimal b h) ∙ ap (λ n. cond (leb 48 b && leb b 57) (Some n) None) (add-zero (b - 48))
+
+pub lane_is : (w : List ℕ) (b : ℕ) → b < 256 → Some b ≡ only_byte w → symbol_of Decimal b ≡ lane_of w
+lane_is w b h e = digit_is b h ∙ sym (ap lane_of (byte_of_lem w b e))
 
 -- a word that is no command's name
 record Unknown (w : List ℕ) : Type 0 where

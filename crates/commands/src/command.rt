@@ -2,7 +2,7 @@
 ghost use Rattle.std.specs.Prelude.{◌≡◌, ◌∷◌, codes};
 ghost use Rattle.std.specs.Option.{option_map};
 ghost use Rattle.text.specs.Readers.{words_left};
-ghost use Rattle.commands.specs.Commands.{read_words, spelled, as_spelled};
+ghost use Rattle.commands.specs.Commands.{mask, unmask, read_words, spelled, as_spelled};
 
 use crate::words::{end, next_lane, next_word, only_byte};
 use text::reader::Reader;
@@ -44,8 +44,14 @@ pub fn read_command<'a>(line: &'a [u8]) -> Option<Command<'a>>
     match only_byte(name)? {
         b'S' => start(&mut words),
         b'E' => finish(&mut words),
-        b'M' => mask(&mut words),
-        b'U' => unmask(&mut words),
+        b'M' => {
+            let (lane, code) = lane_and_code(&mut words)?;
+            Some(Command::Mask { lane, code })
+        }
+        b'U' => {
+            let (lane, code) = lane_and_code(&mut words)?;
+            Some(Command::Unmask { lane, code })
+        }
         b'R' => restart(&mut words),
         _ => None,
     }
@@ -71,24 +77,15 @@ fn finish<'a>(words: &mut Reader<'a>) -> Option<Command<'a>>
     Some(Command::End { lane })
 }
 
-// `M`, a lane and a code, after the `M`.
-fn mask<'a>(words: &mut Reader<'a>) -> Option<Command<'a>>
-    ensures { option_map as_spelled result ≡ read_words (codes "M" ∷ words_left words.old) }
+// A lane and a code, after an `M` or a `U`.
+fn lane_and_code<'a>(words: &mut Reader<'a>) -> Option<(u8, &'a [u8])>
+    ensures masked { option_map (λ p. mask p.0 p.1.now) result ≡ read_words (codes "M" ∷ words_left words.old) }
+    ensures unmasked { option_map (λ p. unmask p.0 p.1.now) result ≡ read_words (codes "U" ∷ words_left words.old) }
 {
     let lane = next_lane(words)?;
     let code = next_word(words)?;
     end(words)?;
-    Some(Command::Mask { lane, code })
-}
-
-// `U`, a lane and a code, after the `U`.
-fn unmask<'a>(words: &mut Reader<'a>) -> Option<Command<'a>>
-    ensures { option_map as_spelled result ≡ read_words (codes "U" ∷ words_left words.old) }
-{
-    let lane = next_lane(words)?;
-    let code = next_word(words)?;
-    end(words)?;
-    Some(Command::Unmask { lane, code })
+    Some((lane, code))
 }
 
 // `R`, after the `R`.

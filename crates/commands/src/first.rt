@@ -48,10 +48,7 @@ fn choose<'a>(name: &[u8], subject: &'a [u8], digits: &'a [u8]) -> Option<First<
 fn codebook<'a>(shape: &'a [u8], coins: &'a [u8]) -> Option<First<'a>>
     ensures { option_map as_opening result ≡ book_of shape.now coins.now }
 {
-    if !hex::is_bytes(Letters::Upper, coins) {
-        return None;
-    }
-    Some(First::Codebook { shape, coins })
+    hex::is_bytes(Letters::Upper, coins).then_some(First::Codebook { shape, coins })
 }
 
 fn network<'a>(letter: &'a [u8], digits: &'a [u8]) -> Option<First<'a>>
@@ -66,8 +63,5 @@ fn network<'a>(letter: &'a [u8], digits: &'a [u8]) -> Option<First<'a>>
 fn alphabet(letter: &[u8]) -> Option<Alphabet>
     ensures { result ≡ alphabet_in letter.now }
 {
-    match letter {
-        [byte] => Alphabet::from_letter(*byte),
-        _ => None,
-    }
+    Alphabet::from_letter(only_byte(letter)?)
 }

@@ -50,13 +50,9 @@ pub fn pile_lanes(
     ensures { MatchResult result (λ _. Keepable kept × Made (piled kept (book codebook) (network_of network)) list.old list.new) (λ fault. (fault ≡ own Range) × (Keepable kept → ⊥) × (list.new ≡ list.old)) }
 {
     let pair = FirstOf::new(CycleWalk::new(codebook, Luhn), network);
-    match KeepPrefix::new(kept, pair) {
-        Err(fault) => Err(fault),
-        Ok(keep) => {
-            let _ = make_calls(CycleWalk::new(keep, NonzeroLead), list);
-            Ok(())
-        }
-    }
+    let keep = KeepPrefix::new(kept, pair)?;
+    let _ = make_calls(CycleWalk::new(keep, NonzeroLead), list);
+    Ok(())
 }
 
 // Two packhouses, one over the network and one over a walked codebook, each with its own list.

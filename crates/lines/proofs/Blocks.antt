@@ -9,12 +9,12 @@ use Rattle.coder.specs.Calls.{Call}
 use Rattle.coder.specs.Handed.{Through}
 use Rattle.coder.specs.Lists.{past}
 use Rattle.coder.specs.Machine.{Held}
+use Rattle.commands.specs.Commands.{spelled}
 use Rattle.printing.specs.declared.printed.Printed.{Printed}
-use Rattle.printing.specs.Printings.{Holds}
 use Rattle.printing.specs.Replies.{line_feed}
 use Rattle.lines.specs.LineReplies.{calls_of, printed_by, printed_for}
-use Rattle.lines.specs.Answers.{gives, lanes_past, AnsweredLine}
-use Rattle.lines.specs.Blocks.{feed_in, Feedless, ended, heard, printed_lines, lanes_after, lines_by, EachHolds, AnsweredBlock}
+use Rattle.lines.specs.Answers.{gives, lanes_past, AnsweredBy}
+use Rattle.lines.specs.Blocks.{feed_in, Feedless, ended, heard, printed_lines, lanes_after, lines_by, BlockBy}
 use Rattle.lines.proofs.Feeds.{within, line_feedless, line_end}
 
 ended_more : (lines : List (List ℕ)) (line : List ℕ) → ended (lines ++ (line ∷ [])) ≡ ended lines ++ (line ++ (line_feed ∷ []))
@@ -38,12 +38,6 @@ by_more : (m : Meaning) (lanes : List (Option Held)) (lines : List (List ℕ)) (
 by_more m lanes [] line = refl
 by_more m lanes (l ∷ lines) line = ap (λ ts. printed_by (gives m lanes) l ∷ ts) (by_more m (lanes_past m lanes (calls_of l)) lines line)
 
-holds_more : (ps : List Printed) (texts : List (List ℕ)) (p : Printed) (text : List ℕ) → EachHolds ps texts → Holds p text → EachHolds (ps ++ (p ∷ [])) (texts ++ (text ∷ []))
-holds_more [] [] p text each one = (one, tt)
-holds_more [] (t ∷ ts) p text each one = absurd each
-holds_more (q ∷ ps) [] p text each one = absurd each
-holds_more (q ∷ ps) (t ∷ ts) p text each one = (each.0, holds_more ps ts p text each.1 one)
-
 -- slots as they came, filled as they stand
 pub record Sofar (m : Meaning) (before after : List (Option Held)) (block : List ℕ) (used i : ℕ) (slots filled : List Printed) : Type 0 where
   pub lines : List (List ℕ)
@@ -52,13 +46,13 @@ pub record Sofar (m : Meaning) (before after : List (Option Held)) (block : List
   pub feedless : AllByRecursion Feedless lines
   pub counted : length lines ≡ i
   pub kept : drop i filled ≡ drop i slots
-  pub printed : EachHolds (take i filled) (lines_by m before lines)
+  pub printed : take i filled ≡ lines_by m before lines
   pub lanes : after ≡ lanes_after m before lines
-  pub follows : (h : List Call) → Through m before h → Through m after (heard h lines) × EachHolds (take i filled) (printed_lines m h lines)
+  pub follows : (h : List Call) → Through m before h → Through m after (heard h lines) × (take i filled ≡ printed_lines m h lines)
 
 module _ (m : Meaning) (before now : List (Option Held)) (block : List ℕ) (used i : ℕ) (slots filled : List Printed) (so : Sofar m before now block used i slots filled) where
   -- no line is left, or no slot
-  pub ends : (i < length slots → Feedless (drop used block)) → AnsweredBlock m before now block used i slots filled
+  pub ends : (i < length slots → Feedless (drop used block)) → BlockBy m before now block used i slots filled
   ends left = record {
     lines = so.lines;
     split = so.split;
@@ -73,7 +67,7 @@ module _ (m : Meaning) (before now : List (Option Held)) (block : List ℕ) (use
   }
 
   pub more : (after : List (Option Held)) (n : ℕ) (p : Printed) → Some n ≡ feed_in (drop used block) → i < length filled
-      → AnsweredLine m now after (take n (drop used block)) p → Sofar m before after block (used + (n + 1)) (i + 1) slots (set filled i p)
+      → AnsweredBy m now after (spelled (take n (drop used block))) p → Sofar m before after block (used + (n + 1)) (i + 1) slots (set filled i p)
   more after n p found slot a =
       let rest = drop used block in
       let line = take n rest in
@@ -86,25 +80,28 @@ module _ (m : Meaning) (before now : List (Option Held)) (block : List ℕ) (use
         feedless = All-push Feedless so.lines line so.feedless (line_feedless rest n found);
         counted = length_push so.lines line ∙ ap (λ k. k + 1) so.counted;
         kept = drop-set-lt (i + 1) filled i p (omega arith) ∙ sym (drop-drop 1 i filled) ∙ ap (drop 1) so.kept ∙ drop-drop 1 i slots;
-        printed = subst (λ ps. EachHolds ps (lines_by m before lines)) (sym front)
-            (subst (EachHolds (take i filled ++ (p ∷ []))) (sym (by_more m before so.lines line))
-            (holds_more (take i filled) (lines_by m before so.lines) p _ so.printed (subst (λ ls. Holds p (printed_by (gives m ls) line)) so.lanes a.printed)));
+        printed =
+            front
+            ∙ ap (λ ps. ps ++ (p ∷ [])) so.printed
+            ∙ ap (λ x. lines_by m before so.lines ++ (x ∷ [])) (a.printed ∙ ap (λ ls. printed_by (gives m ls) line) so.lanes)
+            ∙ sym (by_more m before so.lines line);
         lanes = a.lanes ∙ ap (λ ls. lanes_past m ls (calls_of line)) so.lanes ∙ sym (lanes_more m before so.lines line);
         follows = λ h through.
             let x = so.follows h through in
             let y = a.follows (heard h so.lines) x.0 in (
               subst (Through m after) (sym (heard_more h so.lines line)) y.0,
-              subst (λ ps. EachHolds ps (printed_lines m h lines)) (sym front)
-                  (subst (EachHolds (take i filled ++ (p ∷ []))) (sym (printed_more m h so.lines line))
-                  (holds_more (take i filled) (printed_lines m h so.lines) p _ x.1 y.1)),
+              front
+                  ∙ ap (λ ps. ps ++ (p ∷ [])) x.1
+                  ∙ ap (λ t. printed_lines m h so.lines ++ (t ∷ [])) y.1
+                  ∙ sym (printed_more m h so.lines line),
             );
       }
 
   -- the same, with the rest of the block and the line as the code has them
   pub one_more : (after : List (Option Held)) (n : ℕ) (p : Printed) (rest line : List ℕ) → rest ≡ drop used block → line ≡ take n rest
-      → Some n ≡ feed_in rest → i < length filled → AnsweredLine m now after line p → Sofar m before after block (used + (n + 1)) (i + 1) slots (set filled i p)
+      → Some n ≡ feed_in rest → i < length filled → AnsweredBy m now after (spelled line) p → Sofar m before after block (used + (n + 1)) (i + 1) slots (set filled i p)
   one_more after n p rest line is is-line found slot a =
-      more after n p (found ∙ ap feed_in is) slot (subst (λ l. AnsweredLine m now after l p) (is-line ∙ ap (take n) is) a)
+      more after n p (found ∙ ap feed_in is) slot (subst (λ l. AnsweredBy m now after (spelled l) p) (is-line ∙ ap (take n) is) a)
 
 -- a line has a line feed at least
 ended_long : (lines : List (List ℕ)) → length lines ≤ length (ended lines)
@@ -113,6 +110,6 @@ ended_long (l ∷ lines) = omega (arith, ended_long lines, length-append l (line
 
 -- as many bytes are used as there are lines, or more
 pub used_by_lines : (m : Meaning) (before after : List (Option Held)) (block : List ℕ) (used count : ℕ) (slots filled : List Printed) →
-    AnsweredBlock m before after block used count slots filled → count ≤ used
+    BlockBy m before after block used count slots filled → count ≤ used
 used_by_lines m before after block used count slots filled a =
     omega (arith, ended_long a.lines, a.counted, ap length a.split, length-take used block)

@@ -8,17 +8,21 @@ use Rattle.formats.specs.Codes.{verdict, stray_byte, text_verdict, as_symbols, a
 use Rattle.faults.specs.Faults.{own}
 use Rattle.formats.specs.Forms.{Form, remade}
 use Rattle.formats.proofs.Limits.{bounded}
+use Rattle.ciphers.specs.declared.way.Way.{Way}
+use Rattle.ciphers.specs.declared.way.Way.TheVariants.{Forward, Backward}
 use Rattle.ciphers.specs.Meanings.{Meaning}
+use Rattle.coder.specs.declared.coder.Coder.{Coder}
+use Rattle.coder.specs.Called.{Called}
 use Rattle.ciphers.specs.Swaps.{Outcome, refused, swapped, answer, left, unless_refused, unless_barred, barred_past, swap}
-use Rattle.coder.specs.Calls.{Call}
+use Rattle.coder.specs.Calls.{Call, masks, unmasks, turns, Reply}
 use Rattle.coder.specs.Handed.{Through}
 use Rattle.coder.specs.Machine.{Held, is_lane, on_lane, if_held, held, swapped_text}
 use Rattle.coder.specs.Steps.{lane_at, rebuilt, passed_on, asked_text}
 use Rattle.commands.specs.Commands.{mask, unmask}
 use Rattle.printing.specs.declared.printed.Printed.{Printed}
-use Rattle.printing.specs.Printings.{Holds}
 use Rattle.lines.specs.LineReplies.{swap_line}
-use Rattle.lines.specs.Answers.{Answered}
+use Rattle.lines.specs.Answers.{AnsweredBy, Answered, asked}
+use Rattle.lines.proofs.Made.{made}
 
 -- no shape is longer than 32 symbols
 fits : (f g : Form) → remade f ≡ Ok g → g.len ≤ 32
@@ -111,24 +115,52 @@ module _ (m : Meaning) (before after : List (Option Held)) (k : ℕ) (t : List �
   sound : (h : List Call) → Through m before h → (v : Held) → held m h k ≡ Some v → remade v.shape ≡ Ok v.shape
   sound h through v e = (through.sound k v e).rebuilds
 
-  pub mask_cut : Answered m before after (Some (mask k (take 33 t))) p → Answered m before after (Some (mask k t)) p
-  mask_cut a = record {
-    printed = subst (Holds p) (line_alike k _ _ (take 33 t) t (asked_lane m m.forward t k (lane_at before k))) a.printed;
+  pub swap_cut : (way : Way) → AnsweredBy m before after (Some (asked way k (take 33 t))) p → AnsweredBy m before after (Some (asked way k t)) p
+  swap_cut Forward a = record {
+    printed = a.printed ∙ line_alike k _ _ (take 33 t) t (asked_lane m m.forward t k (lane_at before k));
     lanes = a.lanes;
     follows = λ h through.
         let x = a.follows h through in (
           record { eight = x.0.eight; each = x.0.each; sound = x.0.sound },
-          subst (Holds p) (line_alike k _ _ (take 33 t) t (swapped_lane m m.forward t k (held m h k) (sound h through))) x.1,
+          x.1 ∙ line_alike k _ _ (take 33 t) t (swapped_lane m m.forward t k (held m h k) (sound h through)),
+        );
+  }
+  swap_cut Backward a = record {
+    printed = a.printed ∙ line_alike k _ _ (take 33 t) t (asked_lane m m.backward t k (lane_at before k));
+    lanes = a.lanes;
+    follows = λ h through.
+        let x = a.follows h through in (
+          record { eight = x.0.eight; each = x.0.each; sound = x.0.sound },
+          x.1 ∙ line_alike k _ _ (take 33 t) t (swapped_lane m m.backward t k (held m h k) (sound h through)),
         );
   }
 
-  pub unmask_cut : Answered m before after (Some (unmask k (take 33 t))) p → Answered m before after (Some (unmask k t)) p
-  unmask_cut a = record {
-    printed = subst (Holds p) (line_alike k _ _ (take 33 t) t (asked_lane m m.backward t k (lane_at before k))) a.printed;
-    lanes = a.lanes;
-    follows = λ h through.
-        let x = a.follows h through in (
-          record { eight = x.0.eight; each = x.0.each; sound = x.0.sound },
-          subst (Holds p) (line_alike k _ _ (take 33 t) t (swapped_lane m m.backward t k (held m h k) (sound h through))) x.1,
-        );
+-- a swap that a coder answered, with the text that it leaves, of which 32 bytes are printed
+module _ {T : Type 0} (meaning : T → Meaning) (before after : Coder T) (k : ℕ) (t text : List ℕ) (r : Result Unit Fault) (p : Printed) (same_length : length text ≡ length t) (says : p ≡ swap_line k r (take 32 text)) where
+  abbrev m : Meaning
+  m = meaning before.cipher
+
+  abbrev outcome : (Form → List ℕ → List ℕ → List ℕ) → Outcome
+  outcome go = on_lane k (if_held (lane_at before.lanes k) (asked_text m go t))
+
+  printed : (go : Form → List ℕ → List ℕ → List ℕ) → r ≡ answer (outcome go) → p ≡ swap_line k r text
+  printed go is =
+      says
+      ∙ ap (λ a. swap_line k a (take 32 text)) is
+      ∙ whole k (outcome go) t text (long_refused m go t k (lane_at before.lanes k)) same_length
+      ∙ sym (ap (λ a. swap_line k a text) is)
+
+  abbrev reply : Reply
+  reply = record { answer = r; text = text }
+
+  pub swap_said : (way : Way) → Called meaning before after (turns way k t) reply → Answered meaning before after (Some (asked way k t)) p
+  swap_said Forward c = record {
+    answered = made m before.lanes after.lanes (Some (mask k t)) p (masks k t) (λ y. swap_line k y.answer y.text) reply refl (λ say. refl)
+        (ap (λ y. swap_line k y.answer y.text) c.reply) c.lanes c.follows (printed m.forward (ap (λ y. y.answer) c.reply));
+    same = c.same;
+  }
+  swap_said Backward c = record {
+    answered = made m before.lanes after.lanes (Some (unmask k t)) p (unmasks k t) (λ y. swap_line k y.answer y.text) reply refl (λ say. refl)
+        (ap (λ y. swap_line k y.answer y.text) c.reply) c.lanes c.follows (printed m.backward (ap (λ y. y.answer) c.reply));
+    same = c.same;
   }

@@ -6,36 +6,30 @@ use Rattle.coder.specs.Handed.{Through, Follows}
 use Rattle.coder.specs.Lists.{past}
 use Rattle.coder.specs.Machine.{Held}
 use Rattle.coder.specs.Steps.{stepped}
-use Rattle.commands.specs.Commands.{Spelled, spelled}
+use Rattle.commands.specs.Commands.{Spelled}
 use Rattle.printing.specs.declared.printed.Printed.{Printed}
-use Rattle.printing.specs.Printings.{Holds}
 use Rattle.lines.specs.LineReplies.{calls_in, printed_in, machine}
-use Rattle.lines.specs.Answers.{gives, lanes_past, Answered, AnsweredLine}
+use Rattle.lines.specs.Answers.{gives, lanes_past, AnsweredBy}
 
 module _ (m : Meaning) (before after : List (Option Held)) (w : Option Spelled) (p : Printed) where
   -- `line` is what is printed for a reply
   pub made : (c : Call) (line : Reply → List ℕ) (x : Reply) → calls_in w ≡ c ∷ []
       → ((say : Call → Reply) → line (say c) ≡ printed_in say w)
       → line x ≡ line (gives m before c) → after ≡ (stepped m before c).lanes → Follows m before after c x
-      → Holds p (line x) → Answered m before after w p
+      → p ≡ line x → AnsweredBy m before after w p
   made c line x calls law is lanes follows holds = record {
-    printed = subst (Holds p) (is ∙ law (gives m before)) holds;
+    printed = holds ∙ is ∙ law (gives m before);
     lanes = lanes ∙ ap (lanes_past m before) (sym calls);
     follows = λ h through.
         let f = follows h through in
-        (subst (λ cs. Through m after (past cs h)) (sym calls) f.0, subst (Holds p) (ap line f.1 ∙ law (machine m h)) holds);
+        (subst (λ cs. Through m after (past cs h)) (sym calls) f.0, holds ∙ ap line f.1 ∙ law (machine m h));
   }
 
   pub unmade : (line : List ℕ) → calls_in w ≡ [] → ((say : Call → Reply) → line ≡ printed_in say w) → after ≡ before
-      → Holds p line → Answered m before after w p
+      → p ≡ line → AnsweredBy m before after w p
   unmade line calls law lanes holds = record {
-    printed = subst (Holds p) (law (gives m before)) holds;
+    printed = holds ∙ law (gives m before);
     lanes = lanes ∙ ap (lanes_past m before) (sym calls);
     follows = λ h through.
-        (subst (λ cs. Through m after (past cs h)) (sym calls) (subst (λ ls. Through m ls h) (sym lanes) through), subst (Holds p) (law (machine m h)) holds);
+        (subst (λ cs. Through m after (past cs h)) (sym calls) (subst (λ ls. Through m ls h) (sym lanes) through), holds ∙ law (machine m h));
   }
-
-  pub of_line : (line : List ℕ) → w ≡ spelled line → Answered m before after w p → AnsweredLine m before after line p
-  of_line line e a =
-      let b : Answered m before after (spelled line) p = subst (λ x. Answered m before after x p) e a in
-      record { printed = b.printed; lanes = b.lanes; follows = b.follows }

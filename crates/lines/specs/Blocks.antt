@@ -6,27 +6,23 @@
 --   printed_lines  what the reference machine has printed for lines, after the calls of h
 --   lanes_after    the lanes of any coder after lines
 --   lines_by       what any coder has printed for lines, by the lanes that it holds
---   EachHolds      slots that each hold a text
---   AnsweredBlock  a block is answered
-use Rattle.std.specs.Prelude.{◌≡◌, ℕ, ◌<◌, ◌≤◌, Bool, not, List, [], ◌∷◌, ◌++◌, length, take, drop, Option, ◌==◌, ◌≢◌}
+--   BlockBy        a block is answered, by what the cipher means and the lanes
+--   AnsweredBlock  the same of a coder
+use Rattle.std.specs.Prelude.{◌≡◌, ℕ, ◌<◌, ◌≤◌, List, [], ◌∷◌, ◌++◌, length, take, drop, Option, position, ◌==◌, ◌≢◌}
 use Rattle.std.specs.List.{AllByRecursion}
-use Rattle.formats.specs.Codes.{first_not}
 use Rattle.ciphers.specs.Meanings.{Meaning}
+use Rattle.coder.specs.declared.coder.Coder.{Coder}
 use Rattle.coder.specs.Calls.{Call}
 use Rattle.coder.specs.Handed.{Through}
 use Rattle.coder.specs.Lists.{past}
 use Rattle.coder.specs.Machine.{Held}
 use Rattle.printing.specs.declared.printed.Printed.{Printed}
-use Rattle.printing.specs.Printings.{Holds}
 use Rattle.printing.specs.Replies.{line_feed}
 use Rattle.lines.specs.LineReplies.{calls_of, printed_by, printed_for}
 use Rattle.lines.specs.Answers.{gives, lanes_past}
 
-abbrev pub not_feed : ℕ → Bool
-not_feed b = not (b == line_feed)
-
 abbrev pub feed_in : List ℕ → Option ℕ
-feed_in text = first_not not_feed 0 text
+feed_in text = position (λ b. b == line_feed) text
 
 abbrev pub Feedless : List ℕ → Type 0
 Feedless = AllByRecursion (λ b. b ≢ line_feed)
@@ -51,14 +47,8 @@ abbrev pub lines_by : Meaning → List (Option Held) → List (List ℕ) → Lis
 lines_by m lanes [] = []
 lines_by m lanes (line ∷ lines) = printed_by (gives m lanes) line ∷ lines_by m (lanes_past m lanes (calls_of line)) lines
 
-abbrev pub EachHolds : List Printed → List (List ℕ) → Type 0
-EachHolds [] [] = Unit {0}
-EachHolds [] (text ∷ texts) = ⊥
-EachHolds (p ∷ ps) [] = ⊥
-EachHolds (p ∷ ps) (text ∷ texts) = Holds p text × EachHolds ps texts
-
 -- `used` bytes of the block are `count` lines
-pub record AnsweredBlock (m : Meaning) (before after : List (Option Held)) (block : List ℕ) (used count : ℕ) (slots filled : List Printed) : Type 0 where
+pub record BlockBy (m : Meaning) (before after : List (Option Held)) (block : List ℕ) (used count : ℕ) (slots filled : List Printed) : Type 0 where
   pub lines : List (List ℕ)
   -- the lines, with their line feeds, are the front of the block
   pub split : take used block ≡ ended lines
@@ -70,8 +60,13 @@ pub record AnsweredBlock (m : Meaning) (before after : List (Option Held)) (bloc
   -- the slots after those of the lines are as they were
   pub kept : drop count filled ≡ drop count slots
   -- whatever the lanes hold: the bytes printed, and the lanes then
-  pub printed : EachHolds (take count filled) (lines_by m before lines)
+  pub printed : take count filled ≡ lines_by m before lines
   pub lanes : after ≡ lanes_after m before lines
   -- a coder that was handed on through the calls of h prints what the reference machine has for the lines, and is
   -- handed on through the calls that they spell
-  pub follows : (h : List Call) → Through m before h → Through m after (heard h lines) × EachHolds (take count filled) (printed_lines m h lines)
+  pub follows : (h : List Call) → Through m before h → Through m after (heard h lines) × (take count filled ≡ printed_lines m h lines)
+
+pub record AnsweredBlock {T : Type 0} (meaning : T → Meaning) (before after : Coder T) (block : List ℕ) (used count : ℕ) (slots filled : List Printed) : Type 0 where
+  pub answered : BlockBy (meaning before.cipher) before.lanes after.lanes block used count slots filled
+  -- the cipher means what it meant
+  pub same : meaning after.cipher ≡ meaning before.cipher

@@ -1,6 +1,4 @@
 // A line, answered.
-ghost use Rattle.std.specs.Prelude.{◌≡◌};
-ghost use Rattle.coder.specs.Records.{views};
 ghost use Rattle.lines.specs.Answers.{AnsweredLine};
 
 use crate::calls::answer_command;
@@ -14,8 +12,7 @@ use printing::replies::print_fault;
 // Makes the call that a line spells, and gives the line to print. A line that is unreadable, or spells a shape that
 // does not exist, makes no call.
 pub fn answer_line<T: FormatCipher>(coder: &mut Coder<T>, line: &[u8]) -> Printed
-    ensures answered { AnsweredLine (T.FormatCipher.meaning coder.old.cipher) (views coder.old.lanes.records) (views coder.new.lanes.records) line.now result }
-    ensures same { T.FormatCipher.meaning coder.new.cipher ≡ T.FormatCipher.meaning coder.old.cipher }
+    ensures { AnsweredLine T.FormatCipher.meaning coder.old coder.new line.now result }
 {
     match read_command(line) {
         None => print_fault(None, Fault::own(Cause::Line)),

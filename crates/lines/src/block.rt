@@ -1,6 +1,5 @@
 // A block of text, answered line by line.
 ghost use Rattle.std.specs.Prelude.{◌≡◌};
-ghost use Rattle.coder.specs.Records.{views};
 ghost use Rattle.lines.specs.Blocks.{feed_in, AnsweredBlock};
 
 use crate::answer::answer_line;
@@ -22,16 +21,15 @@ pub fn answer_block<T: FormatCipher>(
     block: &[u8],
     slots: &mut [Printed],
 ) -> Progress
-    ensures answered { AnsweredBlock (T.FormatCipher.meaning coder.old.cipher) (views coder.old.lanes.records) (views coder.new.lanes.records) block.now result.used result.lines slots.old slots.new }
-    ensures same { T.FormatCipher.meaning coder.new.cipher ≡ T.FormatCipher.meaning coder.old.cipher }
+    ensures { AnsweredBlock T.FormatCipher.meaning coder.old coder.new block.now result.used result.lines slots.old slots.new }
 {
     let mut used = 0;
-    for i in 0..slots.len() {
+    for (i, slot) in slots.iter_mut().enumerate() {
         let rest = &block[used..];
         let Some(end) = first_feed(rest) else {
             return Progress { used, lines: i };
         };
-        slots[i] = answer_line(coder, &rest[0..end]);
+        *slot = answer_line(coder, &rest[..end]);
         used += end + 1;
     }
     Progress {
@@ -44,10 +42,5 @@ pub fn answer_block<T: FormatCipher>(
 fn first_feed(text: &[u8]) -> Option<usize>
     ensures { result ≡ feed_in text.now }
 {
-    for (i, b) in text.iter().enumerate() {
-        if *b == b'\n' {
-            return Some(i);
-        }
-    }
-    None
+    text.iter().position(|b| *b == b'\n')
 }

@@ -1,6 +1,5 @@
 // What is printed for a call's answer.
-ghost use Rattle.std.specs.Prelude.{take};
-ghost use Rattle.printing.specs.Printings.{Holds};
+ghost use Rattle.std.specs.Prelude.{◌≡◌, take};
 ghost use Rattle.lines.specs.LineReplies.{done_line, swap_line};
 
 use faults::fault::Fault;
@@ -9,7 +8,7 @@ use printing::replies::{print_code, print_fault, print_ok};
 
 // A call that gives no code.
 pub(crate) fn say_done(lane: Option<u8>, answer: Result<(), Fault>) -> Printed
-    ensures { Holds result (done_line lane answer) }
+    ensures { result ≡ done_line lane answer }
 {
     match answer {
         Ok(()) => print_ok(lane),
@@ -19,7 +18,7 @@ pub(crate) fn say_done(lane: Option<u8>, answer: Result<(), Fault>) -> Printed
 
 // A mask or an unmask, with the text that it leaves, of which no more than 32 bytes are printed.
 pub(crate) fn say_swapped(lane: u8, answer: Result<(), Fault>, text: &[u8]) -> Printed
-    ensures { Holds result (swap_line lane answer (take 32 text.now)) }
+    ensures { result ≡ swap_line lane answer (take 32 text.now) }
 {
     match answer {
         Ok(()) => print_code(Some(lane), text),

@@ -1,3 +1,1 @@
-mod Growing
-mod Writing
-mod Bounds
+mod Rows

@@ -1,3 +1,3 @@
-pub mod Printings
+pub mod Rows
 pub mod Replies
 pub mod Laws

@@ -1,7 +1,6 @@
 // The lines that are printed.
-ghost use Rattle.std.specs.Prelude.{take};
-ghost use Rattle.printing.specs.Printings.{Holds};
-ghost use Rattle.printing.specs.Replies.{ok_line, code_line, fault_line};
+ghost use Rattle.std.specs.Prelude.{◌≡◌, ◌≤◌, ◌++◌, length, take, codes};
+ghost use Rattle.printing.specs.Replies.{lane_text, ok_line, code_line, fault_line};
 ghost use Rattle.printing.specs.Laws.{Decimal, Examples};
 
 use crate::printed::Printed;
@@ -12,38 +11,36 @@ const MOST_SYMBOLS: usize = 32;
 
 // A line that was done and gives no code.
 pub fn print_ok(lane: Option<u8>) -> Printed
-    ensures { Holds result (ok_line lane) }
+    ensures { result ≡ ok_line lane }
 {
-    let mut line = Printed::new();
-    line.put_lane(lane);
-    line.push(b' ');
-    line.put(b"ok");
-    line.push(b'\n');
+    let mut line = begin(lane);
+    line.put(b"ok\n");
     line
 }
 
 // A line that gives a code. Of a code that is too long to be one, the first 32 bytes are printed.
 pub fn print_code(lane: Option<u8>, code: &[u8]) -> Printed
-    ensures { Holds result (code_line lane (take 32 code.now)) }
+    ensures { result ≡ code_line lane (take 32 code.now) }
 {
     let most = code.len().min(MOST_SYMBOLS);
-    let mut line = Printed::new();
-    line.put_lane(lane);
-    line.push(b' ');
-    line.put(&code[0..most]);
-    line.push(b'\n');
+    let mut line = begin(lane);
+    line.put(&code[..most]);
+    line.put(b"\n");
     line
 }
 
-// A line that was refused.
+// A line that was refused: the number, the place and the depth of its fault.
 pub fn print_fault(lane: Option<u8>, fault: Fault) -> Printed
-    ensures { Holds result (fault_line lane fault) }
+    ensures { result ≡ fault_line lane fault }
 {
-    let mut line = Printed::new();
-    line.put_lane(lane);
-    line.push(b' ');
-    line.put_fault(fault);
-    line.push(b'\n');
+    let mut line = begin(lane);
+    line.put(b"!");
+    line.put_number(fault.cause.number());
+    line.put(b" ");
+    line.put_number(fault.place);
+    line.put(b" ");
+    line.put_number(fault.depth);
+    line.put(b"\n");
     line
 }
 
@@ -52,3 +49,17 @@ pub fn lines_keep_their_laws()
     ensures decimal { Decimal }
     ensures examples { Examples }
 {}
+
+// The start of a line: a lane, or a hyphen where there is none, and a space.
+fn begin(lane: Option<u8>) -> Printed
+    ensures text { result ≡ lane_text lane ++ codes " " }
+    ensures few { length result ≤ 4 }
+{
+    let mut line = Printed::new();
+    match lane {
+        Some(k) => line.put_number(k),
+        None => line.put(b"-"),
+    }
+    line.put(b" ");
+    line
+}

@@ -13,11 +13,11 @@ use Rattle.walk.specs.Walks.{walking}
 use Rattle.lane_trials.specs.DeepPile.{piled}
 use Rattle.lane_trials.proofs.pile_lanes.Goals as goal
 
-pub returns-in-Ok : goal.returns-in-Ok
-returns-in-Ok c =
-    let q = c.in-Ok.ensures in
-    let walk = c.new-in-Ok.result in
-    let e1 = c.new-in-Ok.ensures.below in
+pub returns : goal.returns
+returns c =
+    let q = c.in_ok-keep.ensures in
+    let walk = c.new-3.result in
+    let e1 = c.new-3.ensures.below in
     let e2 = q.0 in
     let e3 = q.1 in
     let e4 = c.new-pair.ensures.left in

@@ -1,5 +1,4 @@
 use Rattle.std.proofs.Common.{◌≡◌}
-use Rattle.coder.specs.Records.{views}
 use Rattle.coder.proofs.Sofar.{Sofar}
 use Rattle.coder.proofs.list.make_calls.Given as goal
 
@@ -7,4 +6,4 @@ abbrev pub invariant-loop-item : goal.invariant-loop-item
 invariant-loop-item g l =
     let m = g.T.FormatCipher.meaning in
     (m l.coder.cipher ≡ m l.initial.coder.cipher) ×
-    Sofar (m l.initial.coder.cipher) (views l.initial.coder.lanes.records) (views l.coder.lanes.records) l.initial.list l.list l.item-index
+    Sofar (m l.initial.coder.cipher) l.initial.coder.lanes l.coder.lanes l.initial.list l.list l.item-index

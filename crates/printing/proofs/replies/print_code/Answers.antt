@@ -1,12 +1,16 @@
-use Rattle.std.proofs.Common.{◌-◌, take, arith}
-use Rattle.std.proofs.lemmas.List.{length-take}
-use Rattle.printing.proofs.Bounds.{front}
-use Rattle.printing.proofs.Writing.{as_written, line_written}
+use Rattle.std.proofs.Common.{◌≡◌, ℕ, [], ◌∷◌, ◌++◌, min, List, length, take, ap, ◌∙◌, arith}
+use Rattle.std.proofs.lemmas.List.{take_min}
+use Rattle.printing.specs.Replies.{replied, line_feed}
 use Rattle.printing.proofs.replies.print_code.Goals as goal
 
+-- at most 32 bytes of a code
+front : (code : List ℕ) (n : ℕ) → n ≡ min (length code) 32 → take n code ≡ take 32 code
+front code n e = ap (λ k. take k code) (let z : n ≡ min 32 (length code) = omega arith in z) ∙ take_min 32 code
+
 pub returns : goal.returns
+unfolding replied
 returns c =
-    let code = c.args.code.now in
-    line_written c.new-line.result c.put_lane.new.self c.push.new.self c.put.new.self c.push-2.new.self c.args.lane (take 32 code) c.new-line.ensures c.put_lane.ensures.grows c.put_lane.ensures.few c.push.ensures
-    (as_written c.push.new.self c.put.new.self (take (c.min-most.result - 0) code) (take 32 code) (front code c.min-most.result c.min-most.ensures) c.put.ensures)
-    (omega (arith, length-take 32 code)) c.push-2.ensures
+    c.put-2.ensures
+    ∙ ap (λ t. t ++ (line_feed ∷ [])) (c.put.ensures
+    ∙ ap (λ t. t ++ take c.min-most.result c.args.code.now) c.begin-line.ensures.text)
+    ∙ ap (replied c.args.lane) (front c.args.code.now c.min-most.result c.min-most.ensures)

@@ -1,53 +1,84 @@
-use Rattle.std.proofs.Common.{Ok, Err, sym, refl, rules}
+use Rattle.std.proofs.Common.{◌-◌, set, Some, Err, cond, sym, refl, ap, ◌∙◌}
+use Rattle.std.proofs.lemmas.Bool.{cond-true, cond-false}
+use Rattle.std.proofs.lemmas.Result.{err_from_is_err_and}
+use Rattle.faults.specs.declared.fault.Cause.TheVariants.{Lane, RunName, LaneHasRun, ShapeNotTaken}
+use Rattle.faults.specs.Faults.{own}
 use Rattle.formats.specs.Shapes.{form}
-use Rattle.alphabets.proofs.RunNames.{tells}
-use Rattle.coder.specs.Calls.{starts}
-use Rattle.coder.specs.Records.{views}
-use Rattle.coder.proofs.Followed.{Steps, start_follows}
+use Rattle.alphabets.specs.RunNames.{legal}
+use Rattle.ciphers.specs.Swaps.{refused}
+use Rattle.coder.specs.Calls.{starts, done}
+use Rattle.coder.specs.Machine.{held_of, if_free}
+use Rattle.coder.specs.Records.{named}
+use Rattle.coder.specs.Steps.{lane_at}
+use Rattle.coder.proofs.Asked.{on_it, off_it, taken_lane, free_lane}
+use Rattle.coder.proofs.Followed.{refused_call, done_call}
+use Rattle.coder.proofs.Handed.{remakes}
 use Rattle.coder.proofs.coder.Coder.start.Goals as goal
 
-pub put-requires : goal.put-requires
-put-requires g c = record {
-  lane = sym c.if-not-is_lane.ensures;
-  fits = ((tells c.args.run.now).only (sym c.if-not-is_legal.ensures)).short;
-}
-
-pub returns-then-not-is_lane : goal.returns-then-not-is_lane
-returns-then-not-is_lane g c =
+pub returns-in_err-lane : goal.returns-in_err-lane
+returns-in_err-lane g c =
     let m = g.T.FormatCipher.meaning c.args.self.now.cipher in
-    let lanes = views c.args.self.now.lanes.records in
-    let r = Err c.own.result in
-    let p : Steps m lanes lanes (starts c.args.lane c.args.run.now (form c.args.shape.now)) r = search rules in
-    record { value = p.0; lanes = p.1; same = refl; follows = start_follows m lanes lanes c.args.lane c.args.run.now c.args.shape.now r p }
+    let run = c.args.run.now in
+    let f = form c.args.shape.now in
+    let p = err_from_is_err_and c.from_residual.result c.from_residual.ensures.1 in
+    refused_call g.T.FormatCipher.meaning c.args.self.now (starts c.args.lane run f) c.from_residual.result (own Lane) (remakes c.args.shape.now)
+    (p.1 ∙ ap Err (p.2 ∙ c.in_err-lane.ensures.1))
+    (off_it c.args.lane (cond (legal run) (if_free (lane_at c.args.self.now.lanes c.args.lane) (cond (m.taken f) done (refused (own ShapeNotTaken)))) (refused (own RunName))) c.in_err-lane.ensures.0)
 
-pub returns-then-not-is_legal : goal.returns-then-not-is_legal
-returns-then-not-is_legal g c =
+pub returns-in_err-name : goal.returns-in_err-name
+returns-in_err-name g c =
     let m = g.T.FormatCipher.meaning c.args.self.now.cipher in
-    let lanes = views c.args.self.now.lanes.records in
-    let r = Err c.own-then-not-is_legal.result in
-    let p : Steps m lanes lanes (starts c.args.lane c.args.run.now (form c.args.shape.now)) r = search rules in
-    record { value = p.0; lanes = p.1; same = refl; follows = start_follows m lanes lanes c.args.lane c.args.run.now c.args.shape.now r p }
+    let k = c.args.lane in
+    let run = c.args.run.now in
+    let f = form c.args.shape.now in
+    let p = err_from_is_err_and c.from_residual-in_err-name.result c.from_residual-in_err-name.ensures.1 in
+    let if_named = if_free (lane_at c.args.self.now.lanes k) (cond (m.taken f) done (refused (own ShapeNotTaken))) in
+    refused_call g.T.FormatCipher.meaning c.args.self.now (starts k run f) c.from_residual-in_err-name.result (own RunName) (remakes c.args.shape.now) (p.1 ∙ ap Err (p.2 ∙ c.in_err-name.ensures.0))
+    (on_it k (cond (legal run) if_named (refused (own RunName))) c.in_ok-lane.ensures.0 ∙ cond-false (legal run) if_named (refused (own RunName)) c.in_err-name.ensures.1)
 
-pub returns-then-at : goal.returns-then-at
-returns-then-at g c =
+pub returns-then-is_some : goal.returns-then-is_some
+returns-then-is_some g c =
     let m = g.T.FormatCipher.meaning c.args.self.now.cipher in
-    let lanes = views c.args.self.now.lanes.records in
-    let r = Err c.own-then-at.result in
-    let p : Steps m lanes lanes (starts c.args.lane c.args.run.now (form c.args.shape.now)) r = search rules in
-    record { value = p.0; lanes = p.1; same = refl; follows = start_follows m lanes lanes c.args.lane c.args.run.now c.args.shape.now r p }
+    let k = c.args.lane in
+    let lanes = c.args.self.now.lanes in
+    let run = c.args.run.now in
+    let f = form c.args.shape.now in
+    let at_last = cond (m.taken f) done (refused (own ShapeNotTaken)) in
+    let if_named = if_free (lane_at lanes k) at_last in
+    refused_call g.T.FormatCipher.meaning c.args.self.now (starts k run f) (Err c.own.result) (own LaneHasRun) (remakes c.args.shape.now) (ap Err c.own.ensures)
+    (on_it k (cond (legal run) if_named (refused (own RunName))) c.in_ok-lane.ensures.0
+    ∙ cond-true (legal run) if_named (refused (own RunName)) c.in_ok-name.ensures.1
+    ∙ taken_lane c.at.result (lane_at lanes k) at_last (c.at.ensures ∙ ap (lane_at lanes) c.in_ok-lane.ensures.1) (sym c.if-is_some.ensures))
 
 pub returns-then-not-takes : goal.returns-then-not-takes
 returns-then-not-takes g c =
     let m = g.T.FormatCipher.meaning c.args.self.now.cipher in
-    let lanes = views c.args.self.now.lanes.records in
-    let r = Err c.own-then-not-takes.result in
-    let p : Steps m lanes lanes (starts c.args.lane c.args.run.now (form c.args.shape.now)) r = search rules in
-    record { value = p.0; lanes = p.1; same = refl; follows = start_follows m lanes lanes c.args.lane c.args.run.now c.args.shape.now r p }
+    let k = c.args.lane in
+    let lanes = c.args.self.now.lanes in
+    let run = c.args.run.now in
+    let f = form c.args.shape.now in
+    let at_last = cond (m.taken f) done (refused (own ShapeNotTaken)) in
+    let if_named = if_free (lane_at lanes k) at_last in
+    refused_call g.T.FormatCipher.meaning c.args.self.now (starts k run f) (Err c.own-then-not-takes.result) (own ShapeNotTaken) (remakes c.args.shape.now) (ap Err c.own-then-not-takes.ensures)
+    (on_it k (cond (legal run) if_named (refused (own RunName))) c.in_ok-lane.ensures.0
+    ∙ cond-true (legal run) if_named (refused (own RunName)) c.in_ok-name.ensures.1
+    ∙ free_lane c.at.result (lane_at lanes k) at_last (c.at.ensures ∙ ap (lane_at lanes) c.in_ok-lane.ensures.1) (sym c.if-is_some.ensures)
+    ∙ cond-false (m.taken f) done (refused (own ShapeNotTaken)) (sym c.if-not-takes.ensures))
 
 pub returns : goal.returns
 returns g c =
     let m = g.T.FormatCipher.meaning c.args.self.now.cipher in
-    let lanes = views c.args.self.now.lanes.records in
-    let after = views c.put.new.self.records in
-    let p : Steps m lanes after (starts c.args.lane c.args.run.now (form c.args.shape.now)) (Ok tt) = search rules in
-    record { value = p.0; lanes = p.1; same = refl; follows = start_follows m lanes after c.args.lane c.args.run.now c.args.shape.now (Ok tt) p }
+    let k = c.args.lane in
+    let lanes = c.args.self.now.lanes in
+    let run = c.args.run.now in
+    let f = form c.args.shape.now in
+    let at_last = cond (m.taken f) done (refused (own ShapeNotTaken)) in
+    let if_named = if_free (lane_at lanes k) at_last in
+    done_call g.T.FormatCipher.meaning c.args.self.now (record { cipher = c.args.self.now.cipher; lanes = c.set.new.self }) (starts k run f) (remakes c.args.shape.now)
+    (on_it k (cond (legal run) if_named (refused (own RunName))) c.in_ok-lane.ensures.0
+    ∙ cond-true (legal run) if_named (refused (own RunName)) c.in_ok-name.ensures.1
+    ∙ free_lane c.at.result (lane_at lanes k) at_last (c.at.ensures ∙ ap (lane_at lanes) c.in_ok-lane.ensures.1) (sym c.if-is_some.ensures)
+    ∙ cond-true (m.taken f) done (refused (own ShapeNotTaken)) (sym c.if-not-takes.ensures))
+    (c.set.ensures
+    ∙ ap (λ j. set lanes (j - 1) (Some (named c.new-3.result))) c.in_ok-lane.ensures.1
+    ∙ ap (λ u. set lanes (k - 1) (Some u)) (c.new-3.ensures ∙ ap (λ r. held_of r f) c.in_ok-name.ensures.0)) refl

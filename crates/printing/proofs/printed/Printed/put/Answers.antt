@@ -1,13 +1,11 @@
-use Rattle.printing.proofs.Writing.{nothing, next, all}
+use Rattle.std.proofs.Common.{length, ap, arith}
+use Rattle.printing.specs.Rows.{as_long}
+use Rattle.printing.proofs.Rows.{row_after}
 use Rattle.printing.proofs.printed.Printed.put.Goals as goal
 
-pub loop-byte-init : goal.loop-byte-init
-loop-byte-init c = nothing c.args.self.now
-
-pub loop-byte-preserved : goal.loop-byte-preserved
-loop-byte-preserved c =
-    next c.args.self.now c.loop-byte.self c.args.text.now c.loop-byte.byte-index c.loop-byte.invariant c.push.new.self c.loop-byte-test.true c.push.ensures
-
-pub returns : goal.returns
-returns c =
-    all c.args.self.now c.loop-byte.self c.args.text.now c.loop-byte.byte-index c.loop-byte.invariant c.loop-byte-test.false
+pub invariant_of-self : goal.invariant_of-self
+invariant_of-self c =
+    let bytes = c.self.inside.bytes in
+    let len = c.self.inside.len in
+    rw c.copy_from_slice.ensures.after
+    (row_after bytes len c.self.invariant c.args.text.now (omega (arith, ap length c.self.view_is, as_long bytes len c.self.invariant)))

@@ -1,0 +1,8 @@
+use Rattle.std.proofs.Common.{arith}
+use Rattle.lines.proofs.Cuts.{swap_said}
+use Rattle.lines.proofs.calls.swap_text.Goals as goal
+
+pub returns : goal.returns
+returns g c =
+    swap_said g.T.FormatCipher.meaning c.args.coder.now c.swap-answer.new.self c.args.lane c.args.text.now c.swap-answer.new.text c.swap-answer.result c.say_swapped.result
+    (omega arith) c.say_swapped.ensures c.args.way c.swap-answer.ensures
