@@ -11,20 +11,21 @@ use Rattle.formats.specs.Shapes.{form}
 use Rattle.formats.specs.ShapeTexts.{read_form}
 use Rattle.coins.specs.Coins.{bits_of}
 use Rattle.ciphers.specs.Meanings.{Meaning}
+use Rattle.codebook.specs.declared.book.Codebook.{Codebook}
 use Rattle.codebook.specs.Books.{Book, making_book, meaning_of}
 use Rattle.codebook.specs.Codebooks.{book}
 use Rattle.rules.specs.Rules.{leads_nonzero}
 use Rattle.walk.specs.Walks.{walking}
-use Rattle.network_c.specs.declared.books.ReadyBook.{ReadyBook}
 use Rattle.network_c.specs.declared.ffi.Run.{Run}
-use Rattle.network_c.specs.Under.{Ended, way, under}
+use Rattle.network_c.specs.declared.ready.Ready.{Ready}
+use Rattle.network_c.specs.Under.{Ended, toward, way_of, under}
 
 pub record BookPlan : Type 0 where
   pub book : Book
   pub codes : Form
 
-abbrev pub book_plan_of : Result ReadyBook Fault → Result BookPlan Fault
-book_plan_of (Ok r) = Ok (record { book = book r.book; codes = form r.shape })
+abbrev pub book_plan_of : Result (Ready Codebook) Fault → Result BookPlan Fault
+book_plan_of (Ok r) = Ok (record { book = book r.cipher; codes = form r.shape })
 book_plan_of (Err fault) = Err fault
 
 abbrev pub with_book : Form → Result Book Fault → Result BookPlan Fault
@@ -42,5 +43,5 @@ abbrev pub nonzero_book : Book → Meaning
 nonzero_book b = walking (meaning_of b) leads_nonzero
 
 abbrev pub by_book : (Book → Meaning) → Bool → Result BookPlan Fault → List Run → List ℕ → Ended
-by_book means back (Ok p) runs c = under (way back (means p.book) p.codes) runs c
+by_book means back (Ok p) runs c = under (toward (way_of back) (means p.book) p.codes) runs c
 by_book means back (Err fault) runs c = record { code = c; answer = Err fault }

@@ -1,3 +1,4 @@
 pub mod Under
+pub mod Readies
 pub mod Exports
 pub mod Books

@@ -1,5 +1,6 @@
 -- A code swapped under one run after the other. Assumes nothing.
---   way        a swap by a cipher's forward map, or back
+--   toward     a swap by a cipher's map one way or the other
+--   way_of     the way that a flag says, which is true for back
 --   Ended      what the code holds in the end, and the answer
 --   under      a code swapped under one run after the other, up to the first refusal
 --   number_in  an answer as a number: that of the cause, or 0
@@ -8,12 +9,18 @@ use Rattle.faults.specs.declared.fault.Fault.{Fault}
 use Rattle.faults.specs.Faults.{number_of}
 use Rattle.formats.specs.Forms.{Form}
 use Rattle.ciphers.specs.Meanings.{Meaning}
-use Rattle.ciphers.specs.Swaps.{Outcome, refused, swapped, onward, homeward}
+use Rattle.ciphers.specs.Swaps.{Outcome, refused, swapped, swap}
+use Rattle.ciphers.specs.Ways.{map_of}
+use Rattle.ciphers.specs.declared.way.Way.{Way}
+use Rattle.ciphers.specs.declared.way.Way.TheVariants.{Forward, Backward}
 use Rattle.network_c.specs.declared.ffi.Run.{Run}
 
-abbrev pub way : Bool → Meaning → Form → List ℕ → List ℕ → Outcome
-way false = onward
-way true = homeward
+abbrev pub toward : Way → Meaning → Form → List ℕ → List ℕ → Outcome
+toward to m = swap m (map_of m to)
+
+abbrev pub way_of : Bool → Way
+way_of false = Forward
+way_of true = Backward
 
 pub record Ended : Type 0 where
   pub code : List ℕ

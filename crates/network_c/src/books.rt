@@ -4,14 +4,12 @@ ghost use Rattle.codebook.specs.Books.{meaning_of};
 ghost use Rattle.network_c.specs.Books.{book_plan_of, book_planned, by_book, nonzero_book};
 ghost use Rattle.network_c.specs.Under.{number_in};
 
-use crate::ffi::{Run, number};
-use crate::under::swap_under;
+use crate::ffi::Run;
+use crate::ready::{Ready, number, swap_by, walked, way};
 use codebook::book::Codebook;
 use coins::bytes::ByteCoins;
 use faults::fault::Fault;
 use formats::shape::Shape;
-use rules::nonzero_lead::NonzeroLead;
-use walk::cycle::CycleWalk;
 
 // Masks a code of symbols where it stands, or unmasks it, under one run after the other, by the codebook from coins.
 // The answer is 0, or the number of the cause at which it stopped.
@@ -26,10 +24,7 @@ pub extern "C" fn codebook_swap(
     ensures value { result ≡ number_in (by_book meaning_of back (book_planned coins.now shape.now) runs.now code.old).answer }
     ensures after { code.new ≡ (by_book meaning_of back (book_planned coins.now shape.now) runs.now code.old).code }
 {
-    match make(coins, shape) {
-        Ok(mut ready) => number(swap_under(&mut ready.book, back, &ready.shape, runs, code)),
-        Err(fault) => fault.cause.number(),
-    }
+    number(swap_by(make(coins, shape), way(back), runs, code))
 }
 
 // The same by a walk over the codebook to codes that do not begin with 0.
@@ -44,27 +39,14 @@ pub extern "C" fn codebook_walk(
     ensures value { result ≡ number_in (by_book nonzero_book back (book_planned coins.now shape.now) runs.now code.old).answer }
     ensures after { code.new ≡ (by_book nonzero_book back (book_planned coins.now shape.now) runs.now code.old).code }
 {
-    match make(coins, shape) {
-        Ok(ready) => {
-            let mut walk = CycleWalk::new(ready.book, NonzeroLead);
-            number(swap_under(&mut walk, back, &ready.shape, runs, code))
-        }
-        Err(fault) => fault.cause.number(),
-    }
+    number(swap_by(walked(make(coins, shape)), way(back), runs, code))
 }
 
-// A codebook, and the shape of its codes.
-#[derive(Drop)]
-struct ReadyBook {
-    book: Codebook,
-    shape: Shape,
-}
-
-fn make(coins: &[u8], text: &[u8]) -> Result<ReadyBook, Fault>
+fn make(coins: &[u8], text: &[u8]) -> Result<Ready<Codebook>, Fault>
     ensures { book_plan_of result ≡ book_planned coins.now text.now }
 {
     let shape = Shape::read(text)?;
     let mut source = ByteCoins::new(coins);
-    let book = Codebook::from_coins(&mut source, &shape)?;
-    Ok(ReadyBook { book, shape })
+    let cipher = Codebook::from_coins(&mut source, &shape)?;
+    Ok(Ready { cipher, shape })
 }

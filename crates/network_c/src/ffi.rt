@@ -7,16 +7,15 @@ ghost use Rattle.keys.specs.declared.label.Sequence.TheVariants.{KeyPool};
 ghost use Rattle.network_c.specs.Exports.{plan_of, planned, masked, Unmasked, Walked};
 ghost use Rattle.network_c.specs.Under.{number_in};
 
-use crate::under::swap_under;
+use crate::ready::{Ready, number, swap_by, walked, way};
 use block_cipher::cmac::Cmac;
 use ciphers::fast::Fast;
-use ciphers::key_pool::key_pool;
+use ciphers::way::Way;
 use faults::fault::Fault;
 use formats::shape::Shape;
 use keys::label::Sequence;
 use keys::sequence::index_sequence;
-use rules::nonzero_lead::NonzeroLead;
-use walk::cycle::CycleWalk;
+use openings::network::open_network;
 
 #[derive(Clone, Copy)]
 #[repr(C)]
@@ -38,10 +37,7 @@ pub extern "C" fn network_mask(key: &Key, shape: &[u8], runs: &[Run], code: &mut
     ensures value { result ≡ number_in (masked (planned key.now.bytes shape.now) runs.now code.old).answer }
     ensures after { code.new ≡ (masked (planned key.now.bytes shape.now) runs.now code.old).code }
 {
-    match make(key.bytes, shape) {
-        Ok(mut ready) => number(swap_under(&mut ready.fast, false, &ready.shape, runs, code)),
-        Err(fault) => fault.cause.number(),
-    }
+    number(swap_by(make(key.bytes, shape), Way::Forward, runs, code))
 }
 
 // Unmasks it.
@@ -49,10 +45,7 @@ pub extern "C" fn network_mask(key: &Key, shape: &[u8], runs: &[Run], code: &mut
 pub extern "C" fn network_unmask(key: &Key, shape: &[u8], runs: &[Run], code: &mut [u8]) -> u8
     ensures { Unmasked (planned key.now.bytes shape.now) runs.now code.old result code.new }
 {
-    match make(key.bytes, shape) {
-        Ok(mut ready) => number(swap_under(&mut ready.fast, true, &ready.shape, runs, code)),
-        Err(fault) => fault.cause.number(),
-    }
+    number(swap_by(make(key.bytes, shape), Way::Backward, runs, code))
 }
 
 // Masks it, or unmasks it, by a walk over the network to codes that do not begin with 0.
@@ -66,13 +59,7 @@ pub extern "C" fn network_walk(
 ) -> u8
     ensures { Walked back (planned key.now.bytes shape.now) runs.now code.old result code.new }
 {
-    match make(key.bytes, shape) {
-        Ok(ready) => {
-            let mut walk = CycleWalk::new(ready.fast, NonzeroLead);
-            number(swap_under(&mut walk, back, &ready.shape, runs, code))
-        }
-        Err(fault) => fault.cause.number(),
-    }
+    number(swap_by(walked(make(key.bytes, shape)), way(back), runs, code))
 }
 
 // Fills a slice with the index sequence of a run over the pool from the key.
@@ -99,31 +86,10 @@ pub extern "C" fn network_indices(
     ))
 }
 
-// A network, and the shape of its codes.
-#[derive(Drop)]
-struct Ready {
-    fast: Fast,
-    shape: Shape,
-}
-
-fn make(key: [u8; 16], text: &[u8]) -> Result<Ready, Fault>
+fn make(key: [u8; 16], text: &[u8]) -> Result<Ready<Fast>, Fault>
     ensures { plan_of result ≡ planned key text.now }
 {
     let shape = Shape::read(text)?;
-    let mut lent = [0u8; 32];
-    let pool = key_pool(&Cmac::new(key), shape.radix(), &mut lent)?;
-    Ok(Ready {
-        fast: Fast::new(pool, key),
-        shape,
-    })
-}
-
-// The number of the cause of a refusal, or 0.
-pub(crate) fn number(answer: Result<(), Fault>) -> u8
-    ensures { result ≡ number_in answer }
-{
-    match answer {
-        Ok(()) => 0,
-        Err(fault) => fault.cause.number(),
-    }
+    let cipher = open_network(shape.alphabet(), key)?;
+    Ok(Ready { cipher, shape })
 }

@@ -3,4 +3,5 @@
 
 pub mod books;
 pub mod ffi;
+mod ready;
 mod under;

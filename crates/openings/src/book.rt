@@ -1,13 +1,8 @@
 // The walk over a codebook that a first line names.
 ghost use Rattle.std.specs.Prelude.{◌≡◌};
-ghost use Rattle.coins.specs.Coins.{bits_of};
-ghost use Rattle.codebook.specs.Books.{making_book};
-ghost use Rattle.formats.specs.ShapeTexts.{read_form};
-ghost use Rattle.formats.specs.Shapes.{form};
-ghost use Rattle.text.specs.Hex.{bytes_of};
-ghost use Rattle.text.specs.declared.hex.Letters.TheVariants.{Upper};
-ghost use Rattle.openings.specs.OpenedBooks.{book_in, book_for, book_from, opened_book};
+ghost use Rattle.openings.specs.OpenedBooks.{book_in, coins_in, coins_of, opened_book};
 
+use arrayvec::ArrayVec;
 use codebook::book::Codebook;
 use coins::bytes::ByteCoins;
 use faults::fault::{Cause, Fault};
@@ -25,42 +20,21 @@ const MOST_DIGITS: usize = 4096;
 pub fn open_book(shape: &[u8], digits: &[u8]) -> Result<CycleWalk<Codebook, NonzeroLead>, Fault>
     ensures { book_in result ≡ opened_book shape.now digits.now }
 {
-    if digits.len() > MOST_DIGITS {
-        return Err(Fault::own(Cause::Line));
-    }
-    let mut text = [0u8; 4096];
-    let part = &mut text[0..digits.len()];
-    part.copy_from_slice(digits);
-    open_spelled(shape, part)
+    let bytes = read_coins(digits)?;
+    let shape = Shape::read(shape)?;
+    let mut coins = ByteCoins::new(bytes.as_slice());
+    let codebook = Codebook::from_coins(&mut coins, &shape)?;
+    Ok(CycleWalk::new(codebook, NonzeroLead))
 }
 
-// The same with digits that are read where they stand.
-fn open_spelled(shape: &[u8], digits: &mut [u8]) -> Result<CycleWalk<Codebook, NonzeroLead>, Fault>
-    ensures { book_in result ≡ book_from shape.now (bytes_of Upper digits.old) }
+// The bytes that digits spell.
+fn read_coins(digits: &[u8]) -> Result<ArrayVec<u8, MOST_DIGITS>, Fault>
+    ensures { coins_in result ≡ coins_of digits.now }
 {
-    let Some(n) = hex::decode(Letters::Upper, digits) else {
-        return Err(Fault::own(Cause::Line));
-    };
-    open_shape(shape, &digits[0..n])
-}
-
-// The same with the coins as bytes.
-fn open_shape(shape: &[u8], bytes: &[u8]) -> Result<CycleWalk<Codebook, NonzeroLead>, Fault>
-    ensures { book_in result ≡ book_for (read_form shape.now) bytes.now }
-{
-    match Shape::read(shape) {
-        Err(fault) => Err(fault),
-        Ok(shape) => open_walk(&shape, bytes),
-    }
-}
-
-// The walk over the codebook of a shape.
-fn open_walk(shape: &Shape, bytes: &[u8]) -> Result<CycleWalk<Codebook, NonzeroLead>, Fault>
-    ensures { book_in result ≡ (making_book (form shape.now) (bits_of bytes.now)).answer }
-{
-    let mut coins = ByteCoins::new(bytes);
-    match Codebook::from_coins(&mut coins, shape) {
-        Err(fault) => Err(fault),
-        Ok(codebook) => Ok(CycleWalk::new(codebook, NonzeroLead)),
-    }
+    let mut text = ArrayVec::new();
+    text.try_extend_from_slice(digits)
+        .map_err(|_| Fault::own(Cause::Line))?;
+    let count = hex::decode(Letters::Upper, text.as_mut_slice()).ok_or(Fault::own(Cause::Line))?;
+    text.truncate(count);
+    Ok(text)
 }

@@ -14,8 +14,6 @@ pub fn open_network(alphabet: Alphabet, key: [u8; 16]) -> Result<Fast, Fault>
 {
     let mac = Cmac::new(key);
     let mut lent = [0u8; 32];
-    match key_pool(&mac, alphabet.radix(), &mut lent) {
-        Err(fault) => Err(fault),
-        Ok(pool) => Ok(Fast::new(pool, key)),
-    }
+    let pool = key_pool(&mac, alphabet.radix(), &mut lent)?;
+    Ok(Fast::new(pool, key))
 }

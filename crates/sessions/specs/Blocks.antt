@@ -1,11 +1,9 @@
 -- A block of bytes, cut into lines: a line ends at the first LF. Assumes nothing.
 --   cut     the first line of a block and what follows its LF, where a line ends in the block
---   EndsAt  where the first line ends, if one does
 --   line    that line
---   later   what follows it; the block as it is where no line ends in it
 --   head    the first line; all of the block where no line ends in it
 --   beyond  how many bytes follow that and its LF
-use Rattle.std.specs.Prelude.{◌≡◌, ℕ, ◌+◌, ◌<◌, cond, List, [], ◌∷◌, ◌++◌, length, take, drop, Some, None, Option, ◌==◌}
+use Rattle.std.specs.Prelude.{ℕ, cond, List, [], ◌∷◌, ◌++◌, length, Some, None, Option, ◌==◌}
 use Rattle.std.specs.Option.{option_map, unwrap_or}
 
 abbrev pub line_feed : ℕ
@@ -19,15 +17,8 @@ unfoldable pub cut : List ℕ → Option (List ℕ × List ℕ)
 cut [] = None
 cut (b ∷ bs) = cond (b == line_feed) (Some ([], bs)) (option_map (after (b ∷ [])) (cut bs))
 
-abbrev pub EndsAt : List ℕ → Option ℕ → Type 0
-EndsAt block None = cut block ≡ None
-EndsAt block (Some i) = (i < length block) × (cut block ≡ Some (take i block, drop (i + 1) block))
-
 abbrev pub line : List ℕ → Option (List ℕ)
 line block = option_map (λ p. p.0) (cut block)
-
-abbrev pub later : List ℕ → List ℕ
-later block = unwrap_or (option_map (λ p. p.1) (cut block)) block
 
 abbrev pub head : List ℕ → List ℕ
 head block = unwrap_or (line block) block

@@ -1,5 +1,5 @@
 // Lines read from an input, and answered on an output.
-use crate::cut::{Cutter, cut_first};
+use crate::cut::{LF, cut_first};
 use crate::replies::Replies;
 use crate::session::{Session, open_session};
 use crate::waiting::Waiting;
@@ -25,15 +25,15 @@ pub fn serve<R: Read, W: Write>(input: &mut R, output: &mut W) -> io::Result<()>
     let (line, rest) = cut_first(waiting.bytes());
     let (session, printed) = open_session(line);
     waiting.keep_last(rest);
-    let mut replies = Replies::new();
-    replies.put(&printed, output)?;
+    let mut replies = Replies::new(output);
+    replies.put(&printed)?;
     match session {
-        Session::Over => replies.write(output),
-        Session::Codebook(mut coder) => {
-            serve_lines(&mut coder, &mut waiting, &mut replies, input, output)
+        None => replies.write(),
+        Some(Session::Codebook(mut coder)) => {
+            serve_lines(&mut coder, &mut waiting, input, &mut replies)
         }
-        Session::Network(mut coder) => {
-            serve_lines(&mut coder, &mut waiting, &mut replies, input, output)
+        Some(Session::Network(mut coder)) => {
+            serve_lines(&mut coder, &mut waiting, input, &mut replies)
         }
     }
 }
@@ -42,7 +42,7 @@ pub fn serve<R: Read, W: Write>(input: &mut R, output: &mut W) -> io::Result<()>
 fn await_line<R: Read>(waiting: &mut Waiting, input: &mut R) -> io::Result<()> {
     for _ in 0..u64::MAX {
         waiting.shorten();
-        if waiting.read(input)? == 0 || Cutter::new(waiting.bytes()).line().is_some() {
+        if waiting.read(input)? == 0 || waiting.bytes().contains(&LF) {
             break;
         }
     }
@@ -53,63 +53,49 @@ fn await_line<R: Read>(waiting: &mut Waiting, input: &mut R) -> io::Result<()> {
 fn serve_lines<T: FormatCipher, R: Read, W: Write>(
     coder: &mut Coder<T>,
     waiting: &mut Waiting,
-    replies: &mut Replies,
     input: &mut R,
-    output: &mut W,
+    replies: &mut Replies<'_, W>,
 ) -> io::Result<()> {
     for _ in 0..u64::MAX {
-        let rest = answer_lines(coder, waiting.bytes(), replies, output)?;
-        replies.write(output)?;
+        let rest = answer_lines(coder, waiting.bytes(), replies)?;
+        replies.write()?;
         waiting.keep_last(rest);
         waiting.shorten();
         if waiting.read(input)? == 0 {
             break;
         }
     }
-    answer_last(coder, waiting.bytes(), replies, output)
+    answer_last(coder, waiting.bytes(), replies)
 }
 
 // Answers each complete line of a block, some at a time, and says how many bytes stand after the last one.
 fn answer_lines<T: FormatCipher, W: Write>(
     coder: &mut Coder<T>,
     block: &[u8],
-    replies: &mut Replies,
-    output: &mut W,
+    replies: &mut Replies<'_, W>,
 ) -> io::Result<usize> {
     let mut slots = [Printed::new(); AT_A_TIME];
-    let mut used = 0;
-    loop {
-        let progress = answer_block(coder, &block[used..], &mut slots);
-        gather(&slots, progress.lines, replies, output)?;
-        used += progress.used;
+    let mut rest = block;
+    'lines: loop {
+        let progress = answer_block(coder, rest, &mut slots);
+        for printed in slots.iter().take(progress.lines) {
+            replies.put(printed)?;
+        }
+        rest = &rest[progress.used..];
         if progress.lines < AT_A_TIME {
-            return Ok(block.len() - used);
+            return Ok(rest.len());
         }
     }
-}
-
-// Gathers what the first slots hold.
-fn gather<W: Write>(
-    slots: &[Printed],
-    count: usize,
-    replies: &mut Replies,
-    output: &mut W,
-) -> io::Result<()> {
-    for printed in slots.iter().take(count) {
-        replies.put(printed, output)?;
-    }
-    Ok(())
 }
 
 // Answers the last line where it has no LF.
 fn answer_last<T: FormatCipher, W: Write>(
     coder: &mut Coder<T>,
     line: &[u8],
-    replies: &mut Replies,
-    output: &mut W,
+    replies: &mut Replies<'_, W>,
 ) -> io::Result<()> {
     if !line.is_empty() {
-        replies.put(&answer_line(coder, line), output)?;
+        replies.put(&answer_line(coder, line))?;
     }
-    replies.write(output)
+    replies.write()
 }

@@ -1,23 +1,33 @@
 // Bytes that were read and whose line is not answered yet.
-ghost use Rattle.std.specs.Prelude.{◌≡◌, ◌+◌, ◌-◌, ◌≤◌, [], take, drop, IfOk};
+ghost use Rattle.std.specs.Prelude.{◌≡◌, ◌+◌, ◌-◌, [], length, take, drop, IfOk, OnErr};
 
 use std::io;
 use std::io::Read;
+use std::marker::Model;
 
 // A byte more than a line may have: a line of so many bytes is unreadable, whatever follows.
 const MOST_KEPT: usize = 4097;
 
-// The first `len` bytes wait.
+// The first `len` bytes wait. The count stands beside the array, since an input is read into what lies past it.
 #[derive(Drop)]
 pub(crate) struct Waiting {
     bytes: [u8; 65536],
     len: usize,
-    ghost within: { len ≤ 65536 },
+}
+
+impl Model for Waiting {
+    ghost use Rattle.std.specs.Prelude.{ℕ, ◌≤◌, List, take};
+
+    ghost Value = { List ℕ };
+
+    ghost view = { λ w. take w.len w.bytes };
+
+    ghost invariant = { λ w. w.len ≤ 65536 };
 }
 
 impl Waiting {
     pub(crate) fn new() -> Waiting
-        ensures { take result.len result.bytes ≡ [] }
+        ensures { result ≡ [] }
     {
         Waiting {
             bytes: [0; 65536],
@@ -27,15 +37,16 @@ impl Waiting {
 
     // What waits.
     pub(crate) fn bytes(&self) -> &[u8]
-        ensures { result.now ≡ take self.now.len self.now.bytes }
+        ensures { result.now ≡ self.now }
     {
-        &self.bytes[0..self.len]
+        &self.bytes[..self.len]
     }
 
     // Reads more, and answers how many bytes more. What waited stays in front of them.
     pub(crate) fn read<R: Read>(&mut self, input: &mut R) -> io::Result<usize>
-        ensures count { IfOk result (λ n. self.new.len ≡ self.old.len + n) }
-        ensures front { take self.old.len self.new.bytes ≡ take self.old.len self.old.bytes }
+        ensures count { IfOk result (λ n. length self.new ≡ length self.old + n) }
+        ensures front { take (length self.old) self.new ≡ self.old }
+        ensures failed { OnErr result (self.new ≡ self.old) }
     {
         let n = input.read(&mut self.bytes[self.len..])?;
         self.len += n;
@@ -44,7 +55,7 @@ impl Waiting {
 
     // Lets go of all but the last `n` bytes.
     pub(crate) fn keep_last(&mut self, n: usize)
-        ensures { take self.new.len self.new.bytes ≡ drop (self.old.len - n) (take self.old.len self.old.bytes) }
+        ensures { self.new ≡ drop (length self.old - n) self.old }
     {
         if n > self.len {
             return;
@@ -55,7 +66,7 @@ impl Waiting {
 
     // Makes room where no line ends in what waits: the first bytes of a line that is too long tell that it is.
     pub(crate) fn shorten(&mut self)
-        ensures { take self.new.len self.new.bytes ≡ take 4097 (take self.old.len self.old.bytes) }
+        ensures { self.new ≡ take 4097 self.old }
     {
         self.len = self.len.min(MOST_KEPT);
     }

@@ -14,24 +14,25 @@ fn main(rt: HostRuntime) -> io::Result<()> {
     let heap = rt.alloc();
     let mut session = Vec::new(heap);
     for line in BufReader::new(heap, rt.stdin())?.split(heap, b'\n') {
-        let line = line?;
-        take_line(&rt, &mut session, line.as_slice())?;
+        take_line(&rt, &mut session, line?.as_slice())?;
     }
     Ok(())
 }
 
 // Adds a line to the session, or serves the session where the line ends it.
 fn take_line(rt: &HostRuntime, session: &mut Vec<u8>, line: &[u8]) -> io::Result<()> {
-    if line == b"=".as_slice() {
-        return serve_one(rt, session);
+    match line {
+        b"=" => serve_one(rt, session),
+        b"==" => {
+            let _ = session.pop();
+            serve_one(rt, session)
+        }
+        _ => {
+            session.extend_from_slice(line)?;
+            session.push(b'\n')?;
+            Ok(())
+        }
     }
-    if line == b"==".as_slice() {
-        let _ = session.pop();
-        return serve_one(rt, session);
-    }
-    session.extend_from_slice(line)?;
-    session.extend_from_slice(b"\n")?;
-    Ok(())
 }
 
 // Serves a session, and begins the next one.

@@ -19,6 +19,6 @@ impl<'a> Sips<'a> {
 impl<'a> Read for Sips<'a> {
     fn read(&mut self, buf: &mut [u8]) -> io::Result<usize> {
         let n = buf.len().min(SIP);
-        self.left.read(&mut buf[0..n])
+        self.left.read(&mut buf[..n])
     }
 }

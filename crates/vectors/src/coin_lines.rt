@@ -1,5 +1,5 @@
 // The lines that ask for what given coins make.
-use crate::show::{Entries, Refusal};
+use crate::show::Entries;
 use crate::unanswered::Unanswered;
 use crate::words;
 use coins::bytes::ByteCoins;
@@ -32,28 +32,19 @@ pub(crate) fn sbox(rt: &HostRuntime, words: &mut Reader<'_>) -> Result<(), Unans
 fn print_made(rt: &HostRuntime, radix: u16, bytes: &[u8]) -> io::Result<()> {
     let mut coins = ByteCoins::new(bytes);
     match Sbox::shuffled(&mut coins, radix) {
-        Ok(made) => print_box(rt, made),
+        Ok((sbox, taken)) => {
+            let entries = Entries(&sbox);
+            println!(rt; "{entries} ; {taken}")
+        }
         Err(fault) => {
-            let refusal = Refusal(fault);
-            let all = 8 * bytes.len() as u128;
+            let all = bytes.len().saturating_mul(8);
             let taken = all.saturating_sub(count_left(&mut coins, all));
-            println!(rt; "{refusal} ; {taken}")
+            println!(rt; "{fault} ; {taken}")
         }
     }
-}
-
-fn print_box(rt: &HostRuntime, made: (Sbox, u128)) -> io::Result<()> {
-    let (sbox, taken) = made;
-    let entries = Entries(&sbox);
-    println!(rt; "{entries} ; {taken}")
 }
 
 // How many of at most so many coins are left, found by taking them.
-fn count_left(coins: &mut ByteCoins<'_>, most: u128) -> u128 {
-    for count in 0..most {
-        if coins.take(1).is_err() {
-            return count;
-        }
-    }
-    most
+fn count_left(coins: &mut ByteCoins<'_>, most: usize) -> usize {
+    (0..most).take_while(|_| coins.take(1).is_ok()).count()
 }

@@ -15,13 +15,13 @@ use text::reader::Reader;
 pub(crate) fn indices(rt: &HostRuntime, words: &mut Reader<'_>) -> Result<(), Unanswered> {
     let sequence = words::sequence(words)?;
     let mac = Cmac::new(words::key(words)?);
-    let radix = words::small(words)?;
-    let len = words::small(words)?;
-    let layers = words::number(words)?;
+    let radix = words::number(words)?;
+    let len = words::number(words)?;
+    let layers: u16 = words::number(words)?;
     let run = words::next(words)?;
     let count = words::number(words)?;
     words::end(words)?;
-    let mut indices = vec![in rt.alloc(); 0u8; layers as usize]?;
+    let mut indices = vec![in rt.alloc(); 0u8; usize::from(layers)]?;
     let mut lent = [0u8; 32];
     index_sequence(
         &mac,
@@ -37,7 +37,7 @@ pub(crate) fn indices(rt: &HostRuntime, words: &mut Reader<'_>) -> Result<(), Un
 }
 
 fn print_first(rt: &HostRuntime, indices: &[u8], count: u16) -> io::Result<()> {
-    for index in indices.iter().take(count as usize) {
+    for index in indices.iter().take(usize::from(count)) {
         print!(rt; "{index:02X}")?;
     }
     println!(rt; "")
@@ -46,7 +46,7 @@ fn print_first(rt: &HostRuntime, indices: &[u8], count: u16) -> io::Result<()> {
 // `keybox KEY RADIX N`: box N, counted from 0, of the pool from the key.
 pub(crate) fn key_sbox(rt: &HostRuntime, words: &mut Reader<'_>) -> Result<(), Unanswered> {
     let mac = Cmac::new(words::key(words)?);
-    let radix = words::small(words)?;
+    let radix = words::number(words)?;
     let number = words::number(words)?;
     words::end(words)?;
     let mut lent = [0u8; 32];
@@ -60,7 +60,7 @@ pub(crate) fn key_sbox(rt: &HostRuntime, words: &mut Reader<'_>) -> Result<(), U
 
 // Makes the boxes before the one that is asked for.
 fn skip_boxes(coins: &mut KeyCoins, radix: u8, count: u16) -> Result<(), Fault> {
-    for _i in 0..count {
+    for _ in 0..count {
         let _ = Sbox::shuffled(coins, u16::from(radix))?;
     }
     Ok(())

@@ -8,7 +8,6 @@ mod show;
 mod unanswered;
 mod words;
 
-use show::Refusal;
 use std::io;
 use std::io::{BufRead, BufReader, Write};
 use text::reader::Reader;
@@ -16,35 +15,24 @@ use unanswered::Unanswered;
 
 fn main(rt: HostRuntime) -> io::Result<()> {
     let heap = rt.alloc();
-    let mut number: u64 = 0;
-    for line in BufReader::new(heap, rt.stdin())?.split(heap, b'\n') {
-        let line = line?;
-        number = number.saturating_add(1);
-        reply(&rt, number, line.as_slice())?;
+    let lines = BufReader::new(heap, rt.stdin())?.split(heap, b'\n');
+    for (number, line) in (1u64..).zip(lines) {
+        reply(&rt, number, line?.as_slice())?;
     }
     Ok(())
 }
 
 // Prints what a line is answered, or why it has no answer. An empty line and a heading are printed as they are.
 fn reply(rt: &HostRuntime, number: u64, line: &[u8]) -> io::Result<()> {
-    if is_heading(line) {
+    if line.is_empty() || line.starts_with(b"#") {
         return echo(rt, line);
     }
     match answer(rt, line) {
         Ok(()) => Ok(()),
         Err(Unanswered::Unreadable) => println!(rt; "line {number}: unreadable"),
-        Err(Unanswered::Refused(fault)) => {
-            let refusal = Refusal(fault);
-            println!(rt; "{refusal}")
-        }
-        Err(Unanswered::Failed(error)) => Err(error),
-    }
-}
-
-fn is_heading(line: &[u8]) -> bool {
-    match line {
-        [] => true,
-        [first, ..] => *first == b'#',
+        Err(Unanswered::Refused(fault)) => println!(rt; "{fault}"),
+        Err(Unanswered::Unprinted(error)) => Err(error),
+        Err(Unanswered::Memory(error)) => Err(error.into()),
     }
 }
 

@@ -2,31 +2,19 @@
 use faults::fault::Fault;
 use std::alloc::AllocError;
 use std::io;
+use thiserror::Error;
 
-#[derive(Drop)]
+#[derive(Debug, Drop, Error)]
 pub enum Unanswered {
-    // the line cannot be read
+    #[error("the line cannot be read")]
     Unreadable,
     // a call refused what the line asks for
-    Refused(Fault),
-    // the answer could not be made or printed
-    Failed(io::Error),
-}
-
-impl From<Fault> for Unanswered {
-    fn from(fault: Fault) -> Unanswered {
-        Unanswered::Refused(fault)
-    }
-}
-
-impl From<io::Error> for Unanswered {
-    fn from(error: io::Error) -> Unanswered {
-        Unanswered::Failed(error)
-    }
-}
-
-impl From<AllocError> for Unanswered {
-    fn from(error: AllocError) -> Unanswered {
-        Unanswered::Failed(error.into())
-    }
+    #[error("{0}")]
+    Refused(#[from] Fault),
+    // the answer could not be printed
+    #[error(transparent)]
+    Unprinted(#[from] io::Error),
+    // there was no memory for the answer
+    #[error(transparent)]
+    Memory(#[from(alloc)] AllocError),
 }

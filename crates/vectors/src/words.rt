@@ -2,17 +2,16 @@
 use crate::unanswered::Unanswered;
 use keys::label::Sequence;
 use std::alloc::Global;
-use std::str::from_utf8;
+use std::num::ParseIntError;
+use std::str::{FromStr, from_utf8};
 use text::hex;
 use text::hex::Letters;
 use text::reader::Reader;
 
 // The next word, whatever it is. Words are parted by one space, so that none is empty.
 pub(crate) fn next<'a>(words: &mut Reader<'a>) -> Result<&'a [u8], Unanswered> {
-    match words.word() {
-        None | Some([]) => Err(Unanswered::Unreadable),
-        Some(word) => Ok(word),
-    }
+    let word = words.word().filter(|word| !word.is_empty());
+    word.ok_or(Unanswered::Unreadable)
 }
 
 // No word more.
@@ -23,19 +22,12 @@ pub(crate) fn end(words: &mut Reader<'_>) -> Result<(), Unanswered> {
     }
 }
 
-// A decimal number below 65,536.
-pub(crate) fn number(words: &mut Reader<'_>) -> Result<u16, Unanswered> {
-    let word = next(words)?;
-    let Ok(text) = from_utf8(word) else {
-        return Err(Unanswered::Unreadable);
-    };
-    text.parse::<u16>().ok().ok_or(Unanswered::Unreadable)
-}
-
-// A decimal number below 256.
-pub(crate) fn small(words: &mut Reader<'_>) -> Result<u8, Unanswered> {
-    let number = number(words)?;
-    u8::try_from(number).ok().ok_or(Unanswered::Unreadable)
+// A decimal number.
+pub(crate) fn number<N: FromStr<Err = ParseIntError>>(
+    words: &mut Reader<'_>,
+) -> Result<N, Unanswered> {
+    let digits = from_utf8(next(words)?).map_err(|_| Unanswered::Unreadable)?;
+    digits.parse().map_err(|_| Unanswered::Unreadable)
 }
 
 // A key: sixteen bytes in hexadecimal.
@@ -46,13 +38,9 @@ pub(crate) fn key(words: &mut Reader<'_>) -> Result<[u8; 16], Unanswered> {
 // Bytes in hexadecimal.
 pub(crate) fn bytes(heap: Global, words: &mut Reader<'_>) -> Result<Vec<u8>, Unanswered> {
     let mut bytes = next(words)?.to_vec(heap)?;
-    match hex::decode(Letters::Upper, bytes.as_mut_slice()) {
-        Some(count) => {
-            bytes.truncate(count);
-            Ok(bytes)
-        }
-        None => Err(Unanswered::Unreadable),
-    }
+    let count = hex::decode(Letters::Upper, bytes.as_mut_slice()).ok_or(Unanswered::Unreadable)?;
+    bytes.truncate(count);
+    Ok(bytes)
 }
 
 // Which index sequence is meant.

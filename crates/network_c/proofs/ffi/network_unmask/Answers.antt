@@ -1,17 +1,15 @@
 use Rattle.std.proofs.Common.{Result, ap, ◌∙◌, subst}
 use Rattle.faults.specs.declared.fault.Fault.{Fault}
-use Rattle.pools.specs.Pools.{inverses}
-use Rattle.ciphers.specs.Networked.{pool_permutes}
+use Rattle.ciphers.specs.Networks.{networked}
+use Rattle.ciphers.specs.declared.way.Way.TheVariants.{Backward}
 use Rattle.network_c.specs.Exports.{Plan, Unmasked}
 use Rattle.network_c.specs.Under.{number_in}
+use Rattle.network_c.proofs.Made.{swapped_by}
 use Rattle.network_c.proofs.ffi.network_unmask.Goals as goal
 
-pub returns-in-Ok : goal.returns-in-Ok
-returns-in-Ok c =
-    let pool = c.in-Ok.ready.fast.pool in
-    subst (λ (p : Result Plan Fault). Unmasked p c.args.runs.now c.args.code.now c.number.result c.swap_under.new.code) c.in-Ok.ensures (record {
-      inverses = inverses pool;
-      undo = pool_permutes pool;
-      value = c.number.ensures ∙ ap number_in c.swap_under.ensures.value;
-      after = c.swap_under.ensures.after;
-    })
+pub returns : goal.returns
+returns c =
+    let runs = c.args.runs.now in
+    let code = c.args.code.now in
+    subst (λ (p : Result Plan Fault). Unmasked p runs code c.number.result c.swap_by.new.code) c.make.ensures
+    (swapped_by networked Backward c.make.result runs code c.number.result c.swap_by.new.code (c.number.ensures ∙ ap number_in c.swap_by.ensures.value) c.swap_by.ensures.after)
