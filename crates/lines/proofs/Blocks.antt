@@ -1,9 +1,9 @@
 -- One line more of a block. Assumes nothing.
 --   Sofar   the first i lines are answered
-use Rattle.std.proofs.Common.{◌≡◌, ℕ, ◌+◌, ◌<◌, ◌≤◌, List, [], ◌∷◌, ◌++◌, length, take, drop, set, Some, Option, sym, refl, ap, ◌∙◌, subst, arith, lit≤, take-add}
+use Rattle.std.proofs.Common.{◌≡◌, ℕ, ◌+◌, ◌-◌, ◌<◌, ◌≤◌, List, [], ◌∷◌, ◌++◌, length, take, drop, set, Some, Option, sym, refl, ap, ◌∙◌, subst, arith, lit≤, take-add}
 use Rattle.std.specs.List.{AllByRecursion}
 use Rattle.std.proofs.ByRecursion.{All-push}
-use Rattle.std.proofs.lemmas.List.{append_assoc, length-append, length_push, length-take, take_more_set, drop-set-lt, drop-drop, length-drop}
+use Rattle.std.proofs.lemmas.List.{append_assoc, length-append, length_push, length-take, take_more_set, drop-set-lt, drop-drop, length-drop, take_rest}
 use Rattle.ciphers.specs.Meanings.{Meaning}
 use Rattle.coder.specs.Calls.{Call}
 use Rattle.coder.specs.Handed.{Through}
@@ -102,6 +102,27 @@ module _ (m : Meaning) (before now : List (Option Held)) (block : List ℕ) (use
       → Some n ≡ feed_in rest → i < length filled → AnsweredBy m now after (spelled line) p → Sofar m before after block (used + (n + 1)) (i + 1) slots (set filled i p)
   one_more after n p rest line is is-line found slot a =
       more after n p (found ∙ ap feed_in is) slot (subst (λ l. AnsweredBy m now after (spelled l) p) (is-line ∙ ap (take n) is) a)
+
+-- what is left of a block after one line more
+module _ (block rest : List ℕ) (n : ℕ) (inside : length rest ≤ length block) (is : rest ≡ drop (length block - length rest) block) (line : n < length rest) where
+  abbrev left : List ℕ
+  left = take (length rest - (n + 1)) (drop (n + 1) rest)
+
+  left_length : length left ≡ length rest - (n + 1)
+  left_length = ap length (take_rest rest (n + 1)) ∙ length-drop (n + 1) rest
+
+  pub left_inside : length left ≤ length block
+  left_inside = omega (arith, left_length)
+
+  pub left_used : length block - length left ≡ length block - length rest + (n + 1)
+  left_used = omega (arith, left_length)
+
+  pub left_is : left ≡ drop (length block - length left) block
+  left_is =
+      take_rest rest (n + 1)
+      ∙ ap (drop (n + 1)) is
+      ∙ drop-drop (n + 1) (length block - length rest) block
+      ∙ ap (λ u. drop u block) (sym left_used)
 
 -- a line has a line feed at least
 ended_long : (lines : List (List ℕ)) → length lines ≤ length (ended lines)

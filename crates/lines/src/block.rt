@@ -23,17 +23,19 @@ pub fn answer_block<T: FormatCipher>(
 ) -> Progress
     ensures { AnsweredBlock T.FormatCipher.meaning coder.old coder.new block.now result.used result.lines slots.old slots.new }
 {
-    let mut used = 0;
+    let mut rest = block;
     for (i, slot) in slots.iter_mut().enumerate() {
-        let rest = &block[used..];
         let Some(end) = first_feed(rest) else {
-            return Progress { used, lines: i };
+            return Progress {
+                used: block.len() - rest.len(),
+                lines: i,
+            };
         };
         *slot = answer_line(coder, &rest[..end]);
-        used += end + 1;
+        rest = &rest[end + 1..];
     }
     Progress {
-        used,
+        used: block.len() - rest.len(),
         lines: slots.len(),
     }
 }

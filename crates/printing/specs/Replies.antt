@@ -1,13 +1,13 @@
 -- The lines that are printed, with the byte that ends them. Assumes nothing.
 --   lane_text   a lane in decimal, or a hyphen for none
---   fault_text  !, and then number, place and depth in decimal
+--   fault_text  a fault as it is printed: !, and then number, place and depth in decimal
 --   replied     a lane, a space, and what is said on it
 --   ok_line     the line of a call that was done and gives no code
 --   code_line   the line of a code
 --   fault_line  the line of a refusal
 use Rattle.std.specs.Prelude.{ℕ, List, [], ◌∷◌, ◌++◌, Some, None, codes, decimal, Option}
 use Rattle.faults.specs.declared.fault.Fault.{Fault}
-use Rattle.faults.specs.Faults.{number_of}
+use Rattle.faults.specs.FaultText.{text_of}
 
 -- the byte that ends a line
 abbrev pub line_feed : ℕ
@@ -18,8 +18,7 @@ lane_text None = codes "-"
 lane_text (Some k) = decimal k
 
 unfoldable pub fault_text : Fault → List ℕ
-fault_text f =
-    codes "!" ++ decimal (number_of f.cause) ++ codes " " ++ decimal f.place ++ codes " " ++ decimal f.depth
+fault_text f = text_of f
 
 unfoldable pub replied : Option ℕ → List ℕ → List ℕ
 replied lane said = lane_text lane ++ codes " " ++ said ++ (line_feed ∷ [])

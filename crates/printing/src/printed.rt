@@ -4,11 +4,14 @@ ghost use Rattle.std.specs.Prelude.{◌≡◌, ◌+◌, ◌≤◌, [], ◌++◌,
 use itoa::{Buffer, Integer};
 use std::marker::Model;
 
-// The first `len` of the bytes are to be printed, and the rest are zeros. No line is longer than 48 bytes.
-// An array with a length: lines are copied, and an `ArrayVec` cannot be.
+// The most bytes that a line to print has.
+pub const MOST_PRINTED: usize = 48;
+
+// The first `len` of the bytes are to be printed, and the rest are zeros.
+// An array with a length: lines are Copy, so that a row of slots is made by copies, and an `ArrayVec` is not.
 #[derive(Clone, Copy)]
 pub struct Printed {
-    bytes: [u8; 48],
+    bytes: [u8; MOST_PRINTED],
     len: usize,
 }
 
@@ -37,7 +40,7 @@ impl Printed {
         ensures { result ≡ [] }
     {
         Printed {
-            bytes: [0; 48],
+            bytes: [0; MOST_PRINTED],
             len: 0,
         }
     }

@@ -1,6 +1,6 @@
 // The lines that are printed.
 ghost use Rattle.std.specs.Prelude.{◌≡◌, ◌≤◌, ◌++◌, length, take, codes};
-ghost use Rattle.printing.specs.Replies.{lane_text, ok_line, code_line, fault_line};
+ghost use Rattle.printing.specs.Replies.{lane_text, replied, ok_line, code_line, fault_line};
 ghost use Rattle.printing.specs.Laws.{Decimal, Examples};
 
 use crate::printed::Printed;
@@ -13,9 +13,7 @@ const MOST_SYMBOLS: usize = 32;
 pub fn print_ok(lane: Option<u8>) -> Printed
     ensures { result ≡ ok_line lane }
 {
-    let mut line = begin(lane);
-    line.put(b"ok\n");
-    line
+    reply(lane, b"ok")
 }
 
 // A line that gives a code. Of a code that is too long to be one, the first 32 bytes are printed.
@@ -23,13 +21,11 @@ pub fn print_code(lane: Option<u8>, code: &[u8]) -> Printed
     ensures { result ≡ code_line lane (take 32 code.now) }
 {
     let most = code.len().min(MOST_SYMBOLS);
-    let mut line = begin(lane);
-    line.put(&code[..most]);
-    line.put(b"\n");
-    line
+    reply(lane, &code[..most])
 }
 
 // A line that was refused: the number, the place and the depth of its fault.
+// Part by part, not by the fault's `Display`: `write!` promises what was written only where it succeeds.
 pub fn print_fault(lane: Option<u8>, fault: Fault) -> Printed
     ensures { result ≡ fault_line lane fault }
 {
@@ -49,6 +45,17 @@ pub fn lines_keep_their_laws()
     ensures decimal { Decimal }
     ensures examples { Examples }
 {}
+
+// A line that says a text on a lane.
+fn reply(lane: Option<u8>, said: &[u8]) -> Printed
+    requires { length said.now ≤ 32 }
+    ensures { result ≡ replied lane said.now }
+{
+    let mut line = begin(lane);
+    line.put(said);
+    line.put(b"\n");
+    line
+}
 
 // The start of a line: a lane, or a hyphen where there is none, and a space.
 fn begin(lane: Option<u8>) -> Printed

@@ -6,7 +6,8 @@ use Rattle.std.specs.List.{position_or_len, position}
 use Rattle.std.proofs.lemmas.List.Quantifiers.{position-Some}
 use Rattle.std.proofs.lemmas.List.Sums.{fails_before_first}
 use Rattle.std.proofs.lemmas.Bool.{cond-true, cond-false, ne_eqb, eq-eqb, eqb-true, cases_lt, lt-ltb, both_ways}
-use Rattle.sessions.specs.Blocks.{line_feed, after, cut, head, beyond}
+use Rattle.printing.specs.Replies.{line_feed}
+use Rattle.sessions.specs.Blocks.{after, cut, head, beyond}
 
 abbrev pub is_feed : ℕ → Bool
 is_feed b = eqb b line_feed

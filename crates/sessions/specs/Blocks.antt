@@ -5,9 +5,7 @@
 --   beyond  how many bytes follow that and its LF
 use Rattle.std.specs.Prelude.{ℕ, cond, List, [], ◌∷◌, ◌++◌, length, Some, None, Option, ◌==◌}
 use Rattle.std.specs.Option.{option_map, unwrap_or}
-
-abbrev pub line_feed : ℕ
-line_feed = 10
+use Rattle.printing.specs.Replies.{line_feed}
 
 -- a text in front of the first line
 abbrev pub after : List ℕ → List ℕ × List ℕ → List ℕ × List ℕ

@@ -1,16 +1,13 @@
 // Lines to print, gathered so that they are written many at a time.
-ghost use Rattle.std.specs.Prelude.{◌+◌, ◌≤◌, OnOk};
-ghost use Rattle.arrayvec.specs.ArrayVec.{array_vec_len};
+ghost use Rattle.std.specs.Prelude.{◌≡◌, [], OnOk};
 
 use arrayvec::ArrayVec;
-use printing::printed::Printed;
+use printing::printed::{MOST_PRINTED, Printed};
 use std::io;
 use std::io::Write;
 
+// The bytes of lines that wait together.
 const ROOM: usize = 65536;
-
-// The most bytes that a line to print has.
-const MOST: usize = 48;
 
 // Where lines are printed, and the lines that wait to be written.
 #[derive(Drop)]
@@ -29,15 +26,19 @@ impl<'a, W: Write> Replies<'a, W> {
 
     // Adds a line. Where there may be no room for it, what waits is written first.
     pub(crate) fn put(&mut self, printed: &Printed) -> io::Result<()> {
-        if self.waiting.remaining_capacity() < MOST {
+        if self.waiting.remaining_capacity() < MOST_PRINTED {
             self.write()?;
         }
-        let _ = self.waiting.try_extend_from_slice(printed.as_bytes());
+        self.waiting
+            .try_extend_from_slice(printed.as_bytes())
+            .unwrap();
         Ok(())
     }
 
     // Writes all that waits.
-    pub(crate) fn write(&mut self) -> io::Result<()> {
+    pub(crate) fn write(&mut self) -> io::Result<()>
+        ensures { OnOk result (self.new.waiting.items ≡ []) }
+    {
         self.output.write_all(self.waiting.as_slice())?;
         self.waiting.clear();
         Ok(())

@@ -27,6 +27,7 @@ pub fn serve<R: Read, W: Write>(input: &mut R, output: &mut W) -> io::Result<()>
     waiting.keep_last(rest);
     let mut replies = Replies::new(output);
     replies.put(&printed)?;
+    // The last two arms differ in the type of the coder alone, and each type has lines served by code of its own.
     match session {
         None => replies.write(),
         Some(Session::Codebook(mut coder)) => {
@@ -40,6 +41,7 @@ pub fn serve<R: Read, W: Write>(input: &mut R, output: &mut W) -> io::Result<()>
 
 // Reads until a line ends, or the input does.
 fn await_line<R: Read>(waiting: &mut Waiting, input: &mut R) -> io::Result<()> {
+    // It ends where a line or the input ends: the count is so high that no run reaches it.
     for _ in 0..u64::MAX {
         waiting.shorten();
         if waiting.read(input)? == 0 || waiting.bytes().contains(&LF) {
@@ -56,6 +58,7 @@ fn serve_lines<T: FormatCipher, R: Read, W: Write>(
     input: &mut R,
     replies: &mut Replies<'_, W>,
 ) -> io::Result<()> {
+    // It ends where the input ends: the count is so high that no run reaches it.
     for _ in 0..u64::MAX {
         let rest = answer_lines(coder, waiting.bytes(), replies)?;
         replies.write()?;
@@ -76,6 +79,7 @@ fn answer_lines<T: FormatCipher, W: Write>(
 ) -> io::Result<usize> {
     let mut slots = [Printed::new(); AT_A_TIME];
     let mut rest = block;
+    // The outer loop has a name, so that its proof tells it from the loop inside it.
     'lines: loop {
         let progress = answer_block(coder, rest, &mut slots);
         for printed in slots.iter().take(progress.lines) {

@@ -1,17 +1,21 @@
 // Bytes that were read and whose line is not answered yet.
 ghost use Rattle.std.specs.Prelude.{◌≡◌, ◌+◌, ◌-◌, [], length, take, drop, IfOk, OnErr};
 
+use commands::command::MOST_BYTES;
 use std::io;
 use std::io::Read;
 use std::marker::Model;
 
+// The bytes that may wait.
+const ROOM: usize = 65536;
+
 // A byte more than a line may have: a line of so many bytes is unreadable, whatever follows.
-const MOST_KEPT: usize = 4097;
+const MOST_KEPT: usize = MOST_BYTES + 1;
 
 // The first `len` bytes wait. The count stands beside the array, since an input is read into what lies past it.
 #[derive(Drop)]
 pub(crate) struct Waiting {
-    bytes: [u8; 65536],
+    bytes: [u8; ROOM],
     len: usize,
 }
 
@@ -30,7 +34,7 @@ impl Waiting {
         ensures { result ≡ [] }
     {
         Waiting {
-            bytes: [0; 65536],
+            bytes: [0; ROOM],
             len: 0,
         }
     }

@@ -1,6 +1,6 @@
-use Rattle.std.proofs.Common.{◌≡◌, ℕ, [], ◌∷◌, ◌++◌, min, List, length, take, ap, ◌∙◌, arith}
+use Rattle.std.proofs.Common.{◌≡◌, ℕ, min, List, length, take, ap, ◌∙◌, arith}
 use Rattle.std.proofs.lemmas.List.{take_min}
-use Rattle.printing.specs.Replies.{replied, line_feed}
+use Rattle.printing.specs.Replies.{replied}
 use Rattle.printing.proofs.replies.print_code.Goals as goal
 
 -- at most 32 bytes of a code
@@ -8,9 +8,4 @@ front : (code : List ℕ) (n : ℕ) → n ≡ min (length code) 32 → take n co
 front code n e = ap (λ k. take k code) (let z : n ≡ min 32 (length code) = omega arith in z) ∙ take_min 32 code
 
 pub returns : goal.returns
-unfolding replied
-returns c =
-    c.put-2.ensures
-    ∙ ap (λ t. t ++ (line_feed ∷ [])) (c.put.ensures
-    ∙ ap (λ t. t ++ take c.min-most.result c.args.code.now) c.begin-line.ensures.text)
-    ∙ ap (replied c.args.lane) (front c.args.code.now c.min-most.result c.min-most.ensures)
+returns c = c.reply.ensures ∙ ap (replied c.args.lane) (front c.args.code.now c.min-most.result c.min-most.ensures)
