@@ -9,7 +9,7 @@ use Rattle.faults.specs.Faults.{own}
 use Rattle.formats.specs.Forms.{Form}
 use Rattle.alphabets.specs.RunNames.{legal}
 use Rattle.ciphers.specs.Meanings.{Meaning}
-use Rattle.ciphers.specs.Swaps.{checked, Outcome, unless_barred, unless_refused, swap, answer, left, barred_past, passed_up}
+use Rattle.ciphers.specs.Swaps.{checked, Outcome, refused, unless_barred, unless_refused, swap, answer, left, barred_past, passed_up}
 use Rattle.ciphers.proofs.Checked.{swap_checked, up_answer}
 
 -- what is not taken is refused by the checks, whatever the code
@@ -31,6 +31,11 @@ module _ (m : Meaning) (go : Form → List ℕ → List ℕ → List ℕ) (f : F
   pub shut_after : c ≡ left (swap m go f run c) c
   unfolding swap checked
   shut_after = sym (shut (legal run) (code_verdict f c) otherwise c).1 ∙ ap (λ t. left (unless_refused (checked t f run c) otherwise) c) out
+
+-- what the checks refuse is answered so, and the code stays
+pub stopped : {o : Outcome} {c : List ℕ} {fault passed : Fault} {result : Result Unit Fault} → result ≡ Err passed → passed ≡ fault → o ≡ refused fault
+    → (result ≡ answer o) × (c ≡ left o c)
+stopped {c = c} is same o-is = (is ∙ ap Err same ∙ sym (ap answer o-is), sym (ap (λ o. left o c) o-is))
 
 -- what comes up, where a code is barred above exactly where it is below, one deeper
 module _ (b : Option ℕ) (y z : List ℕ) {above below : Outcome} (up : above ≡ unless_barred (barred_past b) z) (down : below ≡ unless_barred b y) where

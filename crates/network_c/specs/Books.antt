@@ -3,7 +3,8 @@
 --   book_plan_of  the plan of a codebook that was made, or why none was
 --   book_planned  the plan for coins as bytes and a shape's text
 --   nonzero_book  what the walk to codes that do not begin with 0 means, over a codebook
---   by_book       a code swapped by a plan, if there is one, under one run after the other
+--   book_toward   a code swapped by a plan, if there is one, under one run after the other, one way or the other
+--   by_book       the same, by the flag of the way as it crosses
 use Rattle.std.specs.Prelude.{ℕ, Bool, List, Ok, Err, Result}
 use Rattle.faults.specs.declared.fault.Fault.{Fault}
 use Rattle.formats.specs.Forms.{Form}
@@ -11,6 +12,7 @@ use Rattle.formats.specs.Shapes.{form}
 use Rattle.formats.specs.ShapeTexts.{read_form}
 use Rattle.coins.specs.Coins.{bits_of}
 use Rattle.ciphers.specs.Meanings.{Meaning}
+use Rattle.ciphers.specs.declared.way.Way.{Way}
 use Rattle.codebook.specs.declared.book.Codebook.{Codebook}
 use Rattle.codebook.specs.Books.{Book, making_book, meaning_of}
 use Rattle.codebook.specs.Codebooks.{book}
@@ -42,6 +44,9 @@ book_planned coins text = book_for coins (read_form text)
 abbrev pub nonzero_book : Book → Meaning
 nonzero_book b = walking (meaning_of b) leads_nonzero
 
+abbrev pub book_toward : (Book → Meaning) → Way → Result BookPlan Fault → List Run → List ℕ → Ended
+book_toward means to (Ok p) runs c = under (toward to (means p.book) p.codes) runs c
+book_toward means to (Err fault) runs c = record { code = c; answer = Err fault }
+
 abbrev pub by_book : (Book → Meaning) → Bool → Result BookPlan Fault → List Run → List ℕ → Ended
-by_book means back (Ok p) runs c = under (toward (way_of back) (means p.book) p.codes) runs c
-by_book means back (Err fault) runs c = record { code = c; answer = Err fault }
+by_book means back = book_toward means (way_of back)

@@ -1,6 +1,6 @@
 // A cipher that was made for a call, and what it does to the call's code.
 ghost use Rattle.std.specs.Prelude.{◌≡◌};
-ghost use Rattle.network_c.specs.Readies.{by_ready, walked_from};
+ghost use Rattle.network_c.specs.Readies.{by_ready, walk_over};
 ghost use Rattle.network_c.specs.Under.{number_in, way_of};
 
 use crate::ffi::Run;
@@ -19,31 +19,28 @@ pub(crate) struct Ready<C> {
     pub(crate) shape: Shape,
 }
 
-// The walk to codes that do not begin with 0, over a cipher that was made.
-pub(crate) fn walked<C: Drop>(
-    made: Result<Ready<C>, Fault>,
-) -> Result<Ready<CycleWalk<C, NonzeroLead>>, Fault>
-    ensures { result ≡ walked_from made }
-{
-    let Ready { cipher, shape } = made?;
-    Ok(Ready {
-        cipher: CycleWalk::new(cipher, NonzeroLead),
-        shape,
-    })
+impl<C: Drop> Ready<C> {
+    // The walk to codes that do not begin with 0, over the cipher.
+    pub(crate) fn walked(self) -> Ready<CycleWalk<C, NonzeroLead>>
+        ensures { result ≡ walk_over self }
+    {
+        let Ready { cipher, shape } = self;
+        Ready {
+            cipher: CycleWalk::new(cipher, NonzeroLead),
+            shape,
+        }
+    }
 }
 
-// Swaps a code by a cipher, under one run after the other, unless none was made.
-pub(crate) fn swap_by<C: FormatCipher + Drop>(
-    made: Result<Ready<C>, Fault>,
-    way: Way,
-    runs: &[Run],
-    code: &mut [u8],
-) -> Result<(), Fault>
-    ensures value { result ≡ (by_ready C.FormatCipher.meaning way made runs.now code.old).answer }
-    ensures after { code.new ≡ (by_ready C.FormatCipher.meaning way made runs.now code.old).code }
-{
-    let Ready { mut cipher, shape } = made?;
-    swap_under(&mut cipher, way, &shape, runs, code)
+impl<C: FormatCipher + Drop> Ready<C> {
+    // Swaps a code by the cipher, under one run after the other.
+    pub(crate) fn swap(self, way: Way, runs: &[Run], code: &mut [u8]) -> Result<(), Fault>
+        ensures value { result ≡ (by_ready C.FormatCipher.meaning way self runs.now code.old).answer }
+        ensures after { code.new ≡ (by_ready C.FormatCipher.meaning way self runs.now code.old).code }
+    {
+        let Ready { mut cipher, shape } = self;
+        swap_under(&mut cipher, way, &shape, runs, code)
+    }
 }
 
 // A way as it crosses.

@@ -5,13 +5,11 @@ ghost use Rattle.ciphers.specs.Held.{network_of};
 ghost use Rattle.ciphers.specs.Swaps.{onward, answer};
 ghost use Rattle.piles.specs.Piles.{nonzero_over_luhn_pile};
 
+use crate::swap::walk_twice;
 use ciphers::cipher::FormatCipher;
 use ciphers::fast::Fast;
 use faults::fault::Fault;
 use formats::shape::Shape;
-use rules::luhn::Luhn;
-use rules::nonzero_lead::NonzeroLead;
-use walk::cycle::CycleWalk;
 
 // By a walk to codes that do not begin with 0, over a walk to codes that pass the Luhn test, over the network. What
 // the mask refuses is refused, and the code ends as it was on every way out.
@@ -24,8 +22,7 @@ pub fn nonzero_over_luhn(
     ensures value { result ≡ answer (onward (nonzero_over_luhn_pile (network_of network)) (form shape.now) run.now code.old) }
     ensures after { code.new ≡ code.old }
 {
-    let inner = CycleWalk::new(network, Luhn);
-    let mut outer = CycleWalk::new(inner, NonzeroLead);
+    let mut outer = walk_twice(network);
     there_and_back(&mut outer, shape, run, code)
 }
 

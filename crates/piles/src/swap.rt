@@ -68,7 +68,14 @@ pub fn nonzero_over_luhn(
     ensures value { let pile = nonzero_over_luhn_pile (network_of network) in result ≡ answer (swap pile (map_of pile way) (form shape.now) run.now code.old) }
     ensures after { let pile = nonzero_over_luhn_pile (network_of network) in code.new ≡ left (swap pile (map_of pile way) (form shape.now) run.now code.old) code.old }
 {
-    let inner = CycleWalk::new(network, Luhn);
-    let mut outer = CycleWalk::new(inner, NonzeroLead);
+    let mut outer = walk_twice(network);
     swap(&mut outer, way, shape, run, code)
+}
+
+// A walk to codes that do not begin with 0, over a walk to codes that pass the Luhn test, over the network.
+pub(crate) fn walk_twice(network: Fast) -> CycleWalk<CycleWalk<Fast, Luhn>, NonzeroLead>
+    ensures { result.below.below ≡ network }
+{
+    let inner = CycleWalk::new(network, Luhn);
+    CycleWalk::new(inner, NonzeroLead)
 }

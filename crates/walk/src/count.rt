@@ -5,7 +5,7 @@ ghost use Rattle.walk.specs.Walks.{few_codes};
 
 use formats::shape::Shape;
 
-// The most codes that a shape may have.
+// A walk takes no shape of more codes.
 const MOST_CODES: u64 = 1 << 63;
 
 // Does a shape have at most 2^63 codes?

@@ -1,7 +1,7 @@
 // A walk on the cycle of a cipher below, to the first code that a rule allows.
 ghost use Rattle.std.specs.Prelude.{◌≡◌};
 
-pub mod cipher;
+mod cipher;
 mod steps;
 
 // A cipher and a rule. It swaps by the cipher once or more, until the rule first says yes.

@@ -39,11 +39,12 @@ impl<T: FormatCipher> KeepPrefix<T> {
         ensures after { let m = keeping self.old.kept (T.FormatCipher.meaning self.old.below) in code.new ≡ left (swap m (map_of m way) (form shape.now) run.now code.old) code.old }
         ensures same { keeping self.new.kept (T.FormatCipher.meaning self.new.below) ≡ keeping self.old.kept (T.FormatCipher.meaning self.old.below) }
     {
+        // The checks are called in two places, since only a shape that is taken leaves a rest to go on with.
         let Some(rest) = self.taken_below(shape) else {
             return check(false, shape, run, code);
         };
         check(true, shape, run, code)?;
-        let part = &mut code[self.kept as usize..];
+        let part = &mut code[usize::from(self.kept)..];
         pass_up(swap(&mut self.below, way, &rest, run, part))
     }
 

@@ -1,8 +1,8 @@
-use Rattle.std.proofs.Common.{Err, sym, refl, ap, ◌∙◌}
+use Rattle.std.proofs.Common.{refl, ap, ◌∙◌}
 use Rattle.std.proofs.lemmas.Result.{err_from_is_err_and}
 use Rattle.formats.specs.Shapes.{form}
-use Rattle.ciphers.specs.Swaps.{answer, left}
 use Rattle.layers.specs.Firsts.{preferring}
+use Rattle.layers.specs.Handed.{stopped}
 use Rattle.layers.specs.FirstsLemmas.{left_refused, left_value, left_after, right_refused, right_value, right_after}
 use Rattle.layers.proofs.first_of.FirstOf.swap.Goals as goal
 
@@ -10,10 +10,9 @@ pub returns-in_err-check : goal.returns-in_err-check
 returns-in_err-check g c =
     let l = g.L.FormatCipher.meaning c.args.self.now.left in
     let r = g.R.FormatCipher.meaning c.args.self.now.right in
-    let code = c.args.code.now in
     let p = err_from_is_err_and c.from_residual.result c.from_residual.ensures.1 in
-    let is = left_refused l r c.args.way (form c.args.shape.now) c.args.run.now code c.if-takes.ensures c.in_err-check.ensures in
-    record { value = p.1 ∙ ap Err p.2 ∙ sym (ap answer is); after = sym (ap (λ o. left o code) is); same = refl {a = preferring l r} }
+    let is = stopped p.1 p.2 (left_refused l r c.args.way (form c.args.shape.now) c.args.run.now c.args.code.now c.if-takes.ensures c.in_err-check.ensures) in
+    record { value = is.0; after = is.1; same = refl {a = preferring l r} }
 
 pub returns-then-takes : goal.returns-then-takes
 returns-then-takes g c =
@@ -32,10 +31,9 @@ pub returns-in_err-check-2 : goal.returns-in_err-check-2
 returns-in_err-check-2 g c =
     let l = g.L.FormatCipher.meaning c.args.self.now.left in
     let r = g.R.FormatCipher.meaning c.args.self.now.right in
-    let code = c.args.code.now in
     let p = err_from_is_err_and c.from_residual-in_err-check-2.result c.from_residual-in_err-check-2.ensures.1 in
-    let is = right_refused l r c.args.way (form c.args.shape.now) c.args.run.now code c.if-takes.ensures c.takes-2.ensures c.in_err-check-2.ensures in
-    record { value = p.1 ∙ ap Err p.2 ∙ sym (ap answer is); after = sym (ap (λ o. left o code) is); same = refl {a = preferring l r} }
+    let is = stopped p.1 p.2 (right_refused l r c.args.way (form c.args.shape.now) c.args.run.now c.args.code.now c.if-takes.ensures c.takes-2.ensures c.in_err-check-2.ensures) in
+    record { value = is.0; after = is.1; same = refl {a = preferring l r} }
 
 pub returns : goal.returns
 returns g c =
