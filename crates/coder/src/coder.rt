@@ -11,8 +11,7 @@ use crate::record::Record;
 use alphabets::run_name::RunName;
 use ciphers::checks::pass_up;
 use ciphers::cipher::FormatCipher;
-use ciphers::way;
-use ciphers::way::Way;
+use ciphers::way::{Way, swap};
 use faults::fault::{Cause, Fault};
 use formats::code;
 use formats::shape::Shape;
@@ -90,11 +89,13 @@ impl<T: FormatCipher> Coder<T> {
         ensures { Called T.FormatCipher.meaning self.old self.new (turns way lane text.old) (record { answer = result; text = text.new }) }
     {
         let record = self.lanes.running(Lane::new(lane)?)?;
+        // Refuses nothing in a coder that was handed on: the numbers are those of the shape that the lane started with.
         let shape = record.shape()?;
         code::check_text(&shape, text)?;
         let alphabet = shape.alphabet();
         let _ = code::to_symbols(alphabet, text);
-        let below = way::swap(&mut self.cipher, way, &shape, record.run(), text);
+        // The swap of any cipher, not the coder's own.
+        let below = swap(&mut self.cipher, way, &shape, record.run(), text);
         let _ = code::to_text(alphabet, text);
         pass_up(below)
     }

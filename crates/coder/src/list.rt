@@ -13,7 +13,7 @@ use ciphers::cipher::FormatCipher;
 use faults::fault::Fault;
 use formats::shape::Shape;
 
-// A call, with what it hands in. A text is swapped where it stands.
+// A call, with what it hands in: a case for each of the five calls. A text is swapped where it stands.
 #[derive(Drop)]
 pub enum Command {
     Start(u8, Vec<u8>, Shape),

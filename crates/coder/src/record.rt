@@ -6,8 +6,8 @@ use alphabets::run_name::RunName;
 use faults::fault::Fault;
 use formats::shape::Shape;
 
-// The first `name_len` bytes of `name` are the run's name; the shape is its three numbers. Plain bytes, since a record
-// is copied.
+// The first `name_len` bytes of `name` are the run's name; the shape is its three numbers. A record is copied, so it is
+// plain numbers and bytes.
 #[derive(Clone, Copy)]
 pub struct Record {
     pub(crate) name: [u8; 32],

@@ -10,7 +10,8 @@ use text::reader::Reader;
 // The most bytes that a line may have.
 pub const MOST_BYTES: usize = 4096;
 
-// What a line asks for. The run, the shape's text and the code are parts of the line.
+// What a line asks for: a case for each of S, E, M, U and R. The run, the shape's text and the code are parts of the
+// line.
 #[derive(Clone, Copy)]
 pub enum Command<'a> {
     Start {
@@ -44,14 +45,8 @@ pub fn read_command<'a>(line: &'a [u8]) -> Option<Command<'a>>
     match only_byte(name)? {
         b'S' => start(&mut words),
         b'E' => finish(&mut words),
-        b'M' => {
-            let (lane, code) = lane_and_code(&mut words)?;
-            Some(Command::Mask { lane, code })
-        }
-        b'U' => {
-            let (lane, code) = lane_and_code(&mut words)?;
-            Some(Command::Unmask { lane, code })
-        }
+        b'M' => mask(&mut words),
+        b'U' => unmask(&mut words),
         b'R' => restart(&mut words),
         _ => None,
     }
@@ -75,6 +70,22 @@ fn finish<'a>(words: &mut Reader<'a>) -> Option<Command<'a>>
     let lane = next_lane(words)?;
     end(words)?;
     Some(Command::End { lane })
+}
+
+// `M`, a lane and a code, after the `M`.
+fn mask<'a>(words: &mut Reader<'a>) -> Option<Command<'a>>
+    ensures { option_map as_spelled result ≡ read_words (codes "M" ∷ words_left words.old) }
+{
+    let (lane, code) = lane_and_code(words)?;
+    Some(Command::Mask { lane, code })
+}
+
+// `U`, a lane and a code, after the `U`.
+fn unmask<'a>(words: &mut Reader<'a>) -> Option<Command<'a>>
+    ensures { option_map as_spelled result ≡ read_words (codes "U" ∷ words_left words.old) }
+{
+    let (lane, code) = lane_and_code(words)?;
+    Some(Command::Unmask { lane, code })
 }
 
 // A lane and a code, after an `M` or a `U`.

@@ -16,7 +16,7 @@ const MARK: &[u8] = b"BXP\x00\x01";
 
 // Why a line has no answer.
 #[derive(Debug, Drop, Error)]
-pub(crate) enum Unmasked {
+pub(crate) enum Unanswered {
     #[error("{0}")]
     Refused(#[from] Fault),
     #[error(transparent)]
@@ -24,7 +24,7 @@ pub(crate) enum Unmasked {
 }
 
 // The masked code, and what unmasking it gives.
-pub(crate) fn answer(heap: Global, request: &Request<'_>) -> Result<Vec<u8>, Unmasked> {
+pub(crate) fn answer(heap: Global, request: &Request<'_>) -> Result<Vec<u8>, Unanswered> {
     let shape = Shape::read(request.shape)?;
     let mut fast = network(heap, request, shape.radix())?;
     let mut code = request.code.to_vec(heap)?;
@@ -61,7 +61,7 @@ fn turn(
     code::to_text(shape.alphabet(), text)
 }
 
-fn network(heap: Global, request: &Request<'_>, radix: u8) -> Result<Fast, Unmasked> {
+fn network(heap: Global, request: &Request<'_>, radix: u8) -> Result<Fast, Unanswered> {
     let mut lent = [0u8; 32];
     let made = key_pool(&Cmac::new(request.key), radix, &mut lent)?;
     let pool = match request.origin {

@@ -6,7 +6,7 @@
 mod answer;
 mod request;
 
-use answer::{Unmasked, answer};
+use answer::{Unanswered, answer};
 use request::Request;
 use std::io;
 use std::io::{BufRead, BufReader, Write};
@@ -28,8 +28,8 @@ fn reply(rt: &HostRuntime, line: &[u8]) -> io::Result<()> {
     };
     match answer(rt.alloc(), &request) {
         Ok(words) => print(rt, words.as_slice()),
-        Err(Unmasked::Refused(fault)) => println!(rt; "{fault}"),
-        Err(Unmasked::Memory(error)) => Err(error.into()),
+        Err(Unanswered::Refused(fault)) => println!(rt; "{fault}"),
+        Err(Unanswered::Memory(error)) => Err(error.into()),
     }
 }
 

@@ -29,7 +29,7 @@ fn reply(rt: &HostRuntime, number: u64, line: &[u8]) -> io::Result<()> {
     }
     match answer(rt, line) {
         Ok(()) => Ok(()),
-        Err(Unanswered::Unreadable) => println!(rt; "line {number}: unreadable"),
+        Err(why @ Unanswered::Unreadable) => println!(rt; "line {number}: {why}"),
         Err(Unanswered::Refused(fault)) => println!(rt; "{fault}"),
         Err(Unanswered::Unprinted(error)) => Err(error),
         Err(Unanswered::Memory(error)) => Err(error.into()),

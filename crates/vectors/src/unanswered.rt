@@ -6,7 +6,8 @@ use thiserror::Error;
 
 #[derive(Debug, Drop, Error)]
 pub enum Unanswered {
-    #[error("the line cannot be read")]
+    // a word of the line is missing, too many, or none that the command takes
+    #[error("unreadable")]
     Unreadable,
     // a call refused what the line asks for
     #[error("{0}")]

@@ -16,10 +16,8 @@ pub(crate) fn next<'a>(words: &mut Reader<'a>) -> Result<&'a [u8], Unanswered> {
 
 // No word more.
 pub(crate) fn end(words: &mut Reader<'_>) -> Result<(), Unanswered> {
-    match words.word() {
-        None => Ok(()),
-        Some(_) => Err(Unanswered::Unreadable),
-    }
+    let ended = words.word().is_none().then_some(());
+    ended.ok_or(Unanswered::Unreadable)
 }
 
 // A decimal number.

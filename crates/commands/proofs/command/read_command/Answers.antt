@@ -29,23 +29,11 @@ returns-in-83 c = c.start.ensures ∙ chosen (goal.at.returns-in-83 c).In_ok-onl
 pub returns-in-69 : goal.returns-in-69
 returns-in-69 c = c.finish.ensures ∙ chosen (goal.at.returns-in-69 c).In_ok-only_byte 69 c.in-69.is
 
-pub returns-in_err-lane-in-77 : goal.returns-in_err-lane-in-77
-returns-in_err-lane-in-77 c =
-    rw c.from_residual-in_err-lane-in-77.ensures
-    (c.in_err-lane-in-77.ensures.masked ∙ chosen (goal.at.returns-in_err-lane-in-77 c).In_ok-only_byte 77 c.in-77.is)
+pub returns-in-77 : goal.returns-in-77
+returns-in-77 c = c.mask.ensures ∙ chosen (goal.at.returns-in-77 c).In_ok-only_byte 77 c.in-77.is
 
-pub returns-in_ok-lane-in-77 : goal.returns-in_ok-lane-in-77
-returns-in_ok-lane-in-77 c =
-    c.in_ok-lane-in-77.ensures.masked ∙ chosen (goal.at.returns-in_ok-lane-in-77 c).In_ok-only_byte 77 c.in-77.is
-
-pub returns-in_err-lane-in-85 : goal.returns-in_err-lane-in-85
-returns-in_err-lane-in-85 c =
-    rw c.from_residual-in_err-lane-in-85.ensures
-    (c.in_err-lane-in-85.ensures.unmasked ∙ chosen (goal.at.returns-in_err-lane-in-85 c).In_ok-only_byte 85 c.in-85.is)
-
-pub returns-in_ok-lane-in-85 : goal.returns-in_ok-lane-in-85
-returns-in_ok-lane-in-85 c =
-    c.in_ok-lane-in-85.ensures.unmasked ∙ chosen (goal.at.returns-in_ok-lane-in-85 c).In_ok-only_byte 85 c.in-85.is
+pub returns-in-85 : goal.returns-in-85
+returns-in-85 c = c.unmask.ensures ∙ chosen (goal.at.returns-in-85 c).In_ok-only_byte 85 c.in-85.is
 
 pub returns-in-82 : goal.returns-in-82
 returns-in-82 c = c.restart.ensures ∙ chosen (goal.at.returns-in-82 c).In_ok-only_byte 82 c.in-82.is
