@@ -13,7 +13,7 @@ length_bits_of [] = refl
 length_bits_of (b ∷ bs) = let e = length_bits_of bs in omega arith
 
 -- the bit at a place of a byte
-byte_at : (b r : ℕ) → r < 8 → get_or (byte_bits b) r 0 ≡ b / 2 ^ (7 - r) % 2
+pub byte_at : (b r : ℕ) → r < 8 → get_or (byte_bits b) r 0 ≡ b / 2 ^ (7 - r) % 2
 byte_at b zero h = refl
 byte_at b (suc zero) h = refl
 byte_at b (suc (suc zero)) h = refl
@@ -42,6 +42,10 @@ later_byte b bs p k e =
 pub bits_at : (bs : List ℕ) (p : ℕ) → p < 8 * length bs → get_or (bits_of bs) p 0 ≡ get_or bs (p / 8) 0 / 2 ^ (7 - p % 8) % 2
 bits_at [] p h = absurd (omega arith)
 bits_at (b ∷ bs) p h = ⊎_elim (first_byte b bs p) (λ k. later_byte b bs p k (bits_at bs (p - 8) (omega arith))) (cases_lt p 8)
+
+-- which is one of its byte's
+pub bit_of_bytes : (bs : List ℕ) (p : ℕ) → p < 8 * length bs → get_or (bits_of bs) p 0 ≡ get_or (byte_bits (get_or bs (p / 8) 0)) (p % 8) 0
+bit_of_bytes bs p h = bits_at bs p h ∙ sym (byte_at (get_or bs (p / 8) 0) (p % 8) (omega arith))
 
 pub bits_below : (bs : List ℕ) → AllByRecursion (λ b. b < 2) (bits_of bs)
 bits_below [] = tt

@@ -8,11 +8,14 @@ use Rattle.faults.specs.Faults.{deeper}
 use Rattle.faults.proofs.Variants.{err≢ok}
 
 -- `made` is the call's answer r, with its refusal changed
-abbrev pub Changed : {T : Type 0} → (Fault → Fault → Type 0) → Result T Fault → Result T Fault → Type 0
-Changed {T} P r made = MatchResult r (λ x. made ≡ Ok x) (λ e. IsErrAnd made (P e))
+abbrev pub Changed : {T E : Type 0} → (E → Fault → Type 0) → Result T E → Result T Fault → Type 0
+Changed {T} {E} P r made = MatchResult r (λ x. made ≡ Ok x) (λ e. IsErrAnd made (P e))
 
-pub changed_ok : {T : Type 0} (P : Fault → Fault → Type 0) (r made : Result T Fault) (x : T) → made ≡ Ok x → Changed P r made → Ok x ≡ r
-changed_ok P (Ok y) made x e h = sym e ∙ h
+same_ok : {T : Type 0} (x y : T) → ◌≡◌ {A = Result T Fault} (Ok x) (Ok y) → x ≡ y
+same_ok x y e = cc
+
+pub changed_ok : {T E : Type 0} (P : E → Fault → Type 0) (r : Result T E) (made : Result T Fault) (x : T) → made ≡ Ok x → Changed P r made → Ok x ≡ r
+changed_ok P (Ok y) made x e h = ap Ok (same_ok x y (sym e ∙ h))
 changed_ok P (Err f) made x e h = let p = err_from_is_err_and made h in absurd (err≢ok p.0 x (sym p.1 ∙ e))
 
 same_err : {X : Type 0} (m n : Fault) → ◌≡◌ {A = Result X Fault} (Err m) (Err n) → m ≡ n
@@ -23,7 +26,7 @@ pub handed_err : {U : Type 0} (out : Result U Fault) (m : Fault) → IsErrAnd ou
 handed_err out m o = let q = err_from_is_err_and out o in q.1 ∙ ap Err q.2
 
 -- the refusal of the call, and what became of it
-pub changed_err : {T : Type 0} (P : Fault → Fault → Type 0) (r made : Result T Fault) (m : Fault) → made ≡ Err m → Changed P r made → (e : Fault) × (Err e ≡ r) × P e m
+pub changed_err : {T E : Type 0} (P : E → Fault → Type 0) (r : Result T E) (made : Result T Fault) (m : Fault) → made ≡ Err m → Changed P r made → (e : E) × (Err e ≡ r) × P e m
 changed_err P (Ok x) made m e h = absurd (err≢ok m x (sym e ∙ h))
 changed_err P (Err f) made m e h =
     let p = err_from_is_err_and made h in

@@ -6,7 +6,7 @@ use Rattle.std.proofs.lemmas.Bool.{cond-true, cond-false, le-leb, lt-leb, cases_
 use Rattle.faults.specs.declared.fault.Cause.TheVariants.{Range}
 use Rattle.faults.specs.declared.fault.Fault.{Fault}
 use Rattle.faults.specs.Faults.{own, deeper}
-use Rattle.faults.proofs.Variants.{none≢some, some≢none, same_some}
+use Rattle.faults.proofs.Variants.{some≢none, same_some}
 use Rattle.coins.specs.Sboxes.{unmoved}
 use Rattle.coins.specs.Boxes.{swapped, and_then, swaps, making}
 use Rattle.coins.specs.Coins.{Bits, Outcome, refusal, after, with_count, counted}
@@ -75,6 +75,9 @@ module _ {start : ℕ} {whole : Outcome (List ℕ)} {coins : List ℕ} {i : ℕ}
   unfolding swaps ahead
   shuffle_done e = sym t.goes ∙ ap (λ n. ahead taken (swaps n table rest)) e ∙ cong_outcome refl (omega arith)
 
+  pub shuffle_bits : i < start → Bits coins
+  shuffle_bits h = ⊎_elim (λ e. absurd (omega (arith, e.0))) (λ b. b) t.bits
+
   all_bits : Bits rest → Bits coins
   all_bits b = ⊎_elim (λ e. subst Bits (t.waits ∙ ap (λ n. drop n coins) e.1) b) (λ c. c) t.bits
 
@@ -134,14 +137,6 @@ module _ (a : ℕ) (coins : List ℕ) where
   make_within l h = cond-true (leb 2 a && leb a 4096) _ _ (and_from _ _ (le-leb 2 a l) (le-leb a 4096 h))
 
   -- the box that stays as it is is where a box starts
-  pub make_refused : None ≡ unmoved a → making a coins ≡ refusal (own Range)
-  unfolding making
-  make_refused e =
-      ⊎_elim
-      (λ t. absurd (none≢some (range_with_len 0 a) (e ∙ cond-true _ _ None t)))
-      (λ f. cond-false _ _ _ f)
-      (cases_Bool (leb 2 a && leb a 4096))
-
   pub make_from : (table : List ℕ) → Some table ≡ unmoved a → swaps (a - 1) table coins ≡ making a coins
   unfolding making
   make_from table e =

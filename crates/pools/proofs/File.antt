@@ -1,6 +1,6 @@
 -- File: the form of a pool file, and its rows one after the other. Assumes nothing.
 use Rattle.std.proofs.Common.{◌≡◌, ℕ, suc, ◌+◌, ◌-◌, ◌*◌, ◌<◌, ◌≤◌, true, false, ◌&&◌, eqb, leb, List, [], ◌∷◌, ◌++◌, length, get_or, take, drop, Some, None, Err, sym, refl, ap, ◌∙◌, subst, ⊎_elim, suc-mul, zero-mul, arith}
-use Rattle.std.proofs.lemmas.List.{append_assoc, append-nil, length-append, take_at, drop_at}
+use Rattle.std.proofs.lemmas.List.{append_assoc, append-nil, length-append, get_or-take, take_at, drop_at}
 use Rattle.std.proofs.lemmas.Bool.{cases_Bool, cases_lt, cond-true, cond-false, and_parts, and_from, leb-true, eqb-true, le-leb, eq-eqb}
 use Rattle.std.proofs.lemmas.Option.{some_pair_parts}
 use Rattle.faults.specs.declared.fault.Cause.TheVariants.{PoolFile}
@@ -49,35 +49,17 @@ form_true bytes f =
 pub form_false : (bytes : List ℕ) → (Form bytes → ⊥) → right_form bytes ≡ false
 form_false bytes no-form = ⊎_elim (λ t. absurd (no-form (form_from bytes t))) (λ f. f) (cases_Bool (right_form bytes))
 
--- a file of the right form, byte by byte
-abbrev pub headed : ℕ → List ℕ → List ℕ
-headed r rows = 66 ∷ 88 ∷ 80 ∷ 0 ∷ 1 ∷ r ∷ rows
-
-pub form_headed : (bytes : List ℕ) → Form bytes → bytes ≡ headed (radix_of bytes) (drop 6 bytes)
-form_headed [] f = absurd (omega (arith, f.size))
-form_headed (b0 ∷ []) f = absurd (omega (arith, f.size))
-form_headed (b0 ∷ b1 ∷ []) f = absurd (omega (arith, f.size))
-form_headed (b0 ∷ b1 ∷ b2 ∷ []) f = absurd (omega (arith, f.size))
-form_headed (b0 ∷ b1 ∷ b2 ∷ b3 ∷ []) f = absurd (omega (arith, f.size))
-form_headed (b0 ∷ b1 ∷ b2 ∷ b3 ∷ b4 ∷ []) f = absurd (omega (arith, f.size))
-form_headed (b0 ∷ b1 ∷ b2 ∷ b3 ∷ b4 ∷ r ∷ rows) f =
-    let first : b0 ≡ 66 = f.first in
-    let second : b1 ≡ 88 = f.second in
-    let third : b2 ≡ 80 = f.third in
-    let high : b3 ≡ 0 = omega (arith, f.one) in
-    let low : b4 ≡ 1 = omega (arith, f.one) in
-    cc
-
-pub headed_from : (bytes marked rest rows : List ℕ) (r : ℕ) → bytes ≡ 66 ∷ 88 ∷ 80 ∷ marked → marked ≡ 0 ∷ 1 ∷ rest → rest ≡ r ∷ rows → bytes ≡ headed r rows
-headed_from bytes marked rest rows r e f g = cc
+-- ---- its parts
+-- a byte of the head
+pub head_at : (bytes head : List ℕ) (i : ℕ) → head ≡ take 6 bytes → i < 6 → get_or head i 0 ≡ get_or bytes i 0
+head_at bytes head i e h = ap (λ l. get_or l i 0) e ∙ get_or-take 6 bytes i 0 h
 
 pub parts_none : (bytes : List ℕ) → (Form bytes → ⊥) → None ≡ parts bytes
 parts_none bytes no-form = sym (cond-false (right_form bytes) _ None (form_false bytes no-form))
 
-pub parts_some : (bytes rows : List ℕ) (r : ℕ) → bytes ≡ headed r rows → 4 ≤ r → r ≤ 64 → length rows ≡ 256 * r → Some (r, rows) ≡ parts bytes
-parts_some bytes rows r e least most size =
-    let form : Form (headed r rows) = record { first = refl; second = refl; third = refl; one = refl; least = least; most = most; size = omega arith } in
-    sym (cond-true _ _ None (form_true (headed r rows) form)) ∙ ap parts (sym e)
+pub parts_some : (bytes head rows : List ℕ) → head ≡ take 6 bytes → rows ≡ drop 6 bytes → Form bytes → Some (get_or head 5 0, rows) ≡ parts bytes
+parts_some bytes head rows e f form =
+    ap (λ r. Some (r, rows)) (head_at bytes head 5 e (omega arith)) ∙ ap (λ l. Some (radix_of bytes, l)) f ∙ sym (cond-true (right_form bytes) _ None (form_true bytes form))
 
 -- what the parts of a file tell
 pub parts_told : (bytes rows : List ℕ) (r : ℕ) → Some (r, rows) ≡ parts bytes → Form bytes × (r ≡ radix_of bytes) × (rows ≡ drop 6 bytes)

@@ -1,8 +1,7 @@
 // A box from coins: shuffled by drawn swaps.
-ghost use Rattle.std.specs.Prelude.{◌≡◌, ◌-◌, ◌<◌, IfOk, IfSome};
-ghost use Rattle.std.specs.Option.{option_map};
+ghost use Rattle.std.specs.Prelude.{◌≡◌, ◌-◌, ◌<◌, ◌≤◌, IfOk, OnOk};
 ghost use Rattle.coins.specs.Boxes.{swapped, swaps, making, MadeIn};
-ghost use Rattle.coins.specs.Coins.{after, counted};
+ghost use Rattle.coins.specs.Coins.{Bits, after, counted};
 ghost use Rattle.coins.specs.Sboxes.{entries, boxed, unmoved};
 
 use crate::draw::draw_below;
@@ -18,29 +17,32 @@ impl Sbox {
         ensures after { C.waiting coins.new ≡ after (making radix (C.waiting coins.old)) (C.waiting coins.old) }
         ensures radix { IfOk result (λ drawn. drawn.0.radix ≡ radix) }
     {
-        let mut sbox = Sbox::unmoved(radix).ok_or(Fault::own(Cause::Range))?;
+        // First of all, since a box is large to hand on in an `Option`.
+        if radix < 2 || radix > 4096 {
+            return Err(Fault::own(Cause::Range));
+        }
+        let mut sbox = Sbox::unmoved(radix);
         let taken = sbox.shuffle(coins)?;
         Ok((sbox, taken))
     }
 
-    // The box of a radix, 2 to 4,096, that leaves each number where it is.
-    fn unmoved(radix: u16) -> Option<Sbox>
-        ensures value { option_map entries result ≡ unmoved radix }
-        ensures radix { IfSome result (λ b. b.radix ≡ radix) }
+    // The box of a radix that leaves each number where it is.
+    fn unmoved(radix: u16) -> Sbox
+        requires least { 2 ≤ radix }
+        requires most { radix ≤ 4096 }
+        ensures value { Some (entries result) ≡ unmoved radix }
+        ensures radix { result.radix ≡ radix }
     {
-        if radix < 2 || radix > 4096 {
-            return None;
-        }
         let mut forward = [0u16; 4096];
         // Over the numbers themselves: each is its own image.
         for x in 0..radix {
             forward[usize::from(x)] = x;
         }
-        Some(Sbox {
+        Sbox {
             radix,
             forward,
             inverse: forward,
-        })
+        }
     }
 
     // Swaps the image of each number, from the last down to the second, with that of one that a draw finds at or
@@ -48,6 +50,7 @@ impl Sbox {
     fn shuffle<C: Coins>(&mut self, coins: &mut C) -> Result<u128, Fault>
         ensures value { MadeIn (entries self.new) (swaps (self.old.radix - 1) (entries self.old) (C.waiting coins.old)) result }
         ensures after { C.waiting coins.new ≡ after (swaps (self.old.radix - 1) (entries self.old) (C.waiting coins.old)) (C.waiting coins.old) }
+        ensures bits { OnOk result (Bits (C.waiting coins.old)) }
         ensures radix { self.new.radix ≡ self.old.radix }
     {
         let mut taken = 0u128;

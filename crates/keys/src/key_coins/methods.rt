@@ -13,7 +13,7 @@ use crate::lent::Lent;
 use crate::sequence::is_pooled;
 use block_cipher::aes::Aes128;
 use block_cipher::cmac::Cmac;
-use coins::bit::bit_at;
+use coins::bit::bit_of;
 use coins::source::Coins;
 use faults::fault::{Cause, Fault};
 
@@ -64,7 +64,8 @@ impl KeyCoins {
         ensures below { result < 2 }
         ensures one { self.new.taken ≡ self.old.taken + 1 }
     {
-        let bit = bit_at(&self.block, u128::from(self.taken % 128)).unwrap();
+        let place = self.taken % 128;
+        let bit = bit_of(self.block[(place / 8) as usize], place);
         let taken = self.taken + 1;
         let block = self.block_at(taken);
         self.taken = taken;

@@ -26,8 +26,12 @@ impl Pool {
         let (radix, rows) = parts(bytes).ok_or(Fault::own(Cause::PoolFile))?;
         let mut tables = Tables::new(radix);
         for (n, row) in rows.chunks_exact(usize::from(radix)).enumerate() {
-            let sbox = Sbox::from_entries(row).ok_or(Fault::own(Cause::PoolRow).at(n))?;
-            tables.push(&sbox);
+            // Borrowed, since a box is large to hand on.
+            let given = Sbox::from_entries(row);
+            let sbox = given
+                .as_ref()
+                .ok_or(Fault::own(Cause::PoolRow).at(n))?;
+            tables.push(sbox);
         }
         Ok(tables.pool(Origin::Given))
     }
@@ -37,10 +41,16 @@ impl Pool {
 fn parts(bytes: &[u8]) -> Option<(u8, &[u8])>
     ensures { option_map {U = ℕ × List ℕ} (λ p. (p.0, p.1.now)) result ≡ parts bytes.now }
 {
-    let rest = bytes.strip_prefix(&MARK)?.strip_prefix(&VERSION)?;
-    let (radix, rows) = rest.split_first()?;
-    if *radix < 4 || *radix > 64 || rows.len() != 256 * usize::from(*radix) {
+    let (head, rows) = bytes.split_first_chunk::<6>()?;
+    if head[0] != MARK[0] || head[1] != MARK[1] || head[2] != MARK[2] {
         return None;
     }
-    Some((*radix, rows))
+    if head[3] != VERSION[0] || head[4] != VERSION[1] {
+        return None;
+    }
+    let radix = head[5];
+    if radix < 4 || radix > 64 || rows.len() != 256 * usize::from(radix) {
+        return None;
+    }
+    Some((radix, rows))
 }

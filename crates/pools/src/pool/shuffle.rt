@@ -34,10 +34,10 @@ impl Pool {
         // A loop here and one in `from_file`: one over both would need a trait of where boxes come from.
         let mut tables = Tables::new(radix);
         for n in 0..256 {
-            let (sbox, _) = Sbox::shuffled(coins, u16::from(radix)).map_err(|fault| fault
-                .passed_up()
-                .at(n))?;
-            tables.push(&sbox);
+            // Borrowed, since a box is large to hand on.
+            let drawn = Sbox::shuffled(coins, u16::from(radix));
+            let (sbox, _) = drawn.as_ref().map_err(|fault| fault.passed_up().at(n))?;
+            tables.push(sbox);
         }
         Ok(tables.pool(origin))
     }

@@ -2,7 +2,7 @@ use Rattle.std.proofs.Common.{ℕ, ◌+◌, ◌-◌, ◌≤◌, List, sym, refl,
 use Rattle.coins.specs.Boxes.{swaps, swapped, MadeIn}
 use Rattle.coins.specs.Sboxes.{entries}
 use Rattle.coins.proofs.Passes.{passed_ok, passed_err, OnOk-at_ok}
-use Rattle.coins.proofs.Swaps.{Shuffling, shuffling_none, shuffle_done, shuffle_fits, shuffle_more, shuffle_short, short_left}
+use Rattle.coins.proofs.Swaps.{Shuffling, shuffling_none, shuffle_done, shuffle_bits, shuffle_fits, shuffle_more, shuffle_short, short_left}
 use Rattle.coins.proofs.Takes.{leaves}
 use Rattle.coins.proofs.sbox.Sbox.shuffle.Goals as goal
 
@@ -57,3 +57,6 @@ returns-clause-value g c = shuffle_done c.loop-i.invariant.so_far (omega arith)
 pub returns-clause-after : goal.returns-clause-after
 returns-clause-after g c =
     c.loop-i.invariant.so_far.waits ∙ sym (leaves (g.C.Coins.waiting c.args.coins.now) (shuffle_done c.loop-i.invariant.so_far (omega arith)))
+
+pub returns-clause-bits : goal.returns-clause-bits
+returns-clause-bits g c = shuffle_bits c.loop-i.invariant.so_far (omega arith)

@@ -7,4 +7,4 @@ pub returns-clause-value : goal.returns-clause-value
 returns-clause-value c =
     let a = c.args.radix in
     ap Some (counted_front a c.loop-x.forward (omega arith) (λ k h. c.loop-x.invariant.1 k (omega arith))) ∙
-    sym (cond-true _ _ _ (and_from _ _ (le-leb 2 a c.if-radix-lt2.false) (le-leb a 4096 c.if-radix-gt4096.false)))
+    sym (cond-true _ _ _ (and_from _ _ (le-leb 2 a c.requires.least) (le-leb a 4096 c.requires.most)))

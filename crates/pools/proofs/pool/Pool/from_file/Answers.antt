@@ -1,6 +1,6 @@
 use Rattle.std.proofs.Common.{◌≡◌, ℕ, ◌+◌, ◌*◌, ◌<◌, ◌++◌, ◌∷◌, [], List, length, drop, Some, Ok, Err, Option, Bor, sym, ap, ◌∙◌, subst, arith}
 use Rattle.std.specs.Iterator.Adapters.{enumerate_source, enumerate_count}
-use Rattle.std.specs.Option.{option_map}
+use Rattle.std.specs.Option.{option_map, option_copied}
 use Rattle.std.specs.Slice.Iter.{chunks_exact_rest, chunks_exact_size}
 use Rattle.std.proofs.lemmas.List.{length-drop}
 use Rattle.faults.specs.declared.fault.Cause.TheVariants.{PoolRow}
@@ -59,11 +59,13 @@ returns-in_err-sbox-clause-value c =
     let row = c.in-Some.row.now in
     let long : length row ≡ a = h.0.1.1 ∙ inv.size in
     let l =
-    lacking c.from_entries.result c.at.result c.from_residual-in_err-sbox.result c.in_err-sbox.field-0.0 c.in_err-sbox.ensures.value c.from_residual-in_err-sbox.ensures.1 in
-    let bad = given_none row (omega (arith, t.0.least, t.1)) (omega (arith, t.0.most, t.1)) (ap (option_map entries) l.0 ∙ c.from_entries.ensures) in
+    lacking c.as_ref.result c.at.result c.from_residual-in_err-sbox.result c.in_err-sbox.field-0.0 c.in_err-sbox.ensures.value c.from_residual-in_err-sbox.ensures.1 in
+    let bad = given_none row (omega (arith, t.0.least, t.1)) (omega (arith, t.0.most, t.1)) (ap (option_map entries) (ap option_copied l.0 ∙ c.as_ref.ensures.value) ∙ c.from_entries-given.ensures) in
     let found = reading_bad inv.read (omega (arith, t.0.least, t.1)) row (chunks_exact_rest (enumerate_source c.next.new.self)) h.0.1.0 long bad in
     let rows = cut a 256 (drop 6 c.args.bytes.now) in
-    ap held (l.1 ∙ ap Err (c.at.ensures ∙ ap (λ f. placed f c.in-Some.n) c.own-in-loop-n.ensures ∙ ap (placed (own PoolRow)) (h.1 ∙ inv.place))) ∙
+    let there : (k : ℕ) → k ≡ c.loop-n.tables.count → placed c.own-in-loop-n.result k ≡ placed (own PoolRow) c.loop-n.tables.count =
+    λ k e. ap (λ f. placed f k) c.own-in-loop-n.ensures ∙ ap (placed (own PoolRow)) e in
+    ap held (l.1 ∙ ap Err (c.at.ensures ∙ there _ (omega (arith, h.1, inv.place)))) ∙
     sym (ap (λ o. unless o rows) found) ∙
     ap (λ a. unless (first_bad 0 (cut a 256 (drop 6 c.args.bytes.now))) (cut a 256 (drop 6 c.args.bytes.now))) t.1 ∙
     sym (reading_form c.args.bytes.now t.0)
@@ -76,8 +78,8 @@ loop-n-preserved c =
     let inv = c.loop-n.invariant in
     let row = c.in-Some.row.now in
     let long : length row ≡ a = h.0.1.1 ∙ inv.size in
-    let b = c.in_ok-sbox.sbox in
-    let good = given_some row (entries b) (ap (option_map entries) (sym c.in_ok-sbox.ensures.ok_part) ∙ c.from_entries.ensures) in
+    let b = c.in_ok-sbox.sbox.now in
+    let good = given_some row (entries b) (ap (option_map entries) (ap option_copied (sym c.in_ok-sbox.ensures.ok_part) ∙ c.as_ref.ensures.value) ∙ c.from_entries-given.ensures) in
     let left = chunks_exact_rest (enumerate_source c.next.new.self) in
     let more = reading_more inv.read (omega (arith, t.0.least, t.1)) row left h.0.1.0 long good.0 in
     let u = c.loop-n.tables in

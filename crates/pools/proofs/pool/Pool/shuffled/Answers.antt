@@ -1,4 +1,5 @@
 use Rattle.std.proofs.Common.{◌≡◌, ℕ, ◌+◌, List, [], ◌∷◌, ◌++◌, Ok, Err, sym, ap, ◌∙◌, subst, ⊎_elim, arith, rules}
+use Rattle.std.specs.Result.{result_copied}
 use Rattle.std.proofs.lemmas.Result.{IfOk-at_ok}
 use Rattle.faults.specs.Faults.{placed, deeper}
 use Rattle.coins.specs.Boxes.{making}
@@ -33,48 +34,48 @@ loop-n-init g c =
 
 pub returns-in_err-sbox-clause-value : goal.returns-in_err-sbox-clause-value
 returns-in_err-sbox-clause-value g c =
-    let p = changed_err _ c.shuffled.result c.map_err.result c.in_err-sbox.field-0.0 c.in_err-sbox.was c.map_err.ensures.cases in
+    let p = changed_err _ c.as_ref.result c.map_err.result c.in_err-sbox.field-0.0 c.in_err-sbox.was c.map_err.ensures.cases in
     let said = p.2 in
-    let told : c.in_err-sbox.field-0.0 ≡ placed (deeper p.0) c.loop-n.n-counter = search rules in
+    let told : c.in_err-sbox.field-0.0 ≡ placed (deeper p.0.now) c.loop-n.n-counter = search rules in
     let coins = g.C.Coins.waiting c.args.coins.now in
     let rest = g.C.Coins.waiting c.loop-n.coins in
     let same = ap (λ a. making a rest) c.from.ensures in
-    let bad : (making c.args.radix rest).answer ≡ Err p.0 =
-    ap (λ o. o.answer) (sym same ∙ counted_err (making c.from.result rest) p.0 (ap boxed p.1 ∙ c.shuffled.ensures.value)) in
+    let bad : (making c.args.radix rest).answer ≡ Err p.0.now =
+    ap (λ o. o.answer) (sym same ∙ counted_err (making c.from.result rest) p.0.now (ap boxed (ap result_copied p.1 ∙ c.as_ref.ensures.value) ∙ c.shuffled-drawn.ensures.value)) in
     ap held (handed_err c.from_residual.result c.in_err-sbox.field-0.0 c.from_residual.ensures.1 ∙ ap Err told) ∙
-    ap (λ o. o.answer) (sym (pool_within c.args.radix coins c.if-radix-lt4.false c.if-radix-gt64.false ∙ pooling_short c.loop-n.invariant.made (omega arith) p.0 bad))
+    ap (λ o. o.answer) (sym (pool_within c.args.radix coins c.if-radix-lt4.false c.if-radix-gt64.false ∙ pooling_short c.loop-n.invariant.made (omega arith) p.0.now bad))
 
 pub returns-in_err-sbox-clause-after : goal.returns-in_err-sbox-clause-after
 returns-in_err-sbox-clause-after g c =
-    let p = changed_err _ c.shuffled.result c.map_err.result c.in_err-sbox.field-0.0 c.in_err-sbox.was c.map_err.ensures.cases in
+    let p = changed_err _ c.as_ref.result c.map_err.result c.in_err-sbox.field-0.0 c.in_err-sbox.was c.map_err.ensures.cases in
     let coins = g.C.Coins.waiting c.args.coins.now in
     let rest = g.C.Coins.waiting c.loop-n.coins in
     let same = ap (λ a. making a rest) c.from.ensures in
-    let bad : (making c.args.radix rest).answer ≡ Err p.0 =
-    ap (λ o. o.answer) (sym same ∙ counted_err (making c.from.result rest) p.0 (ap boxed p.1 ∙ c.shuffled.ensures.value)) in
-    c.shuffled.ensures.after ∙ leaves rest same ∙ short_left c.loop-n.invariant.made (omega arith) p.0 bad ∙
+    let bad : (making c.args.radix rest).answer ≡ Err p.0.now =
+    ap (λ o. o.answer) (sym same ∙ counted_err (making c.from.result rest) p.0.now (ap boxed (ap result_copied p.1 ∙ c.as_ref.ensures.value) ∙ c.shuffled-drawn.ensures.value)) in
+    c.shuffled-drawn.ensures.after ∙ leaves rest same ∙ short_left c.loop-n.invariant.made (omega arith) p.0.now bad ∙
     sym (leaves coins (pool_within c.args.radix coins c.if-radix-lt4.false c.if-radix-gt64.false))
 
 pub push-requires-clause-radix : goal.push-requires-clause-radix
 push-requires-clause-radix g c =
-    let did = changed_ok _ c.shuffled.result c.map_err.result (c.in_ok-sbox.sbox, c.in_ok-sbox.field-0-1) c.in_ok-sbox.was c.map_err.ensures.cases in
-    IfOk-at_ok (λ drawn. drawn.0.radix ≡ c.from.result) (sym did) c.shuffled.ensures.radix ∙ c.from.ensures ∙ sym c.loop-n.invariant.same
+    let did = ap result_copied (changed_ok _ c.as_ref.result c.map_err.result c.in_ok-sbox.field-0 c.in_ok-sbox.was c.map_err.ensures.cases) ∙ c.as_ref.ensures.value in
+    IfOk-at_ok (λ drawn. drawn.0.radix ≡ c.from.result) (sym did) c.shuffled-drawn.ensures.radix ∙ c.from.ensures ∙ sym c.loop-n.invariant.same
 
 pub loop-n-preserved : goal.loop-n-preserved
 loop-n-preserved g c =
-    let did = changed_ok _ c.shuffled.result c.map_err.result (c.in_ok-sbox.sbox, c.in_ok-sbox.field-0-1) c.in_ok-sbox.was c.map_err.ensures.cases in
+    let did = ap result_copied (changed_ok _ c.as_ref.result c.map_err.result c.in_ok-sbox.field-0 c.in_ok-sbox.was c.map_err.ensures.cases) ∙ c.as_ref.ensures.value in
     let coins = g.C.Coins.waiting c.args.coins.now in
     let whole = makings c.args.radix 0 256 coins in
     let rest = g.C.Coins.waiting c.loop-n.coins in
     let same = ap (λ a. making a rest) c.from.ensures in
-    let row = entries c.in_ok-sbox.sbox in
-    let good = sym same ∙ counted_ok (making c.from.result rest) row c.in_ok-sbox.field-0-1 (ap boxed did ∙ c.shuffled.ensures.value) in
-    let more = pooling_more c.loop-n.invariant.made (omega arith) row c.in_ok-sbox.field-0-1 good in
+    let row = entries c.in_ok-sbox.field-0.now.0 in
+    let good = sym same ∙ counted_ok (making c.from.result rest) row c.in_ok-sbox.field-0.now.1 (ap boxed did ∙ c.shuffled-drawn.ensures.value) in
+    let more = pooling_more c.loop-n.invariant.made (omega arith) row c.in_ok-sbox.field-0.now.1 good in
     let n = c.loop-n.n-counter + 1 in
-    let left = c.shuffled.ensures.after ∙ leaves rest same in
+    let left = c.shuffled-drawn.ensures.after ∙ leaves rest same in
     record {
       made =
-          subst (λ (l : List (List ℕ)). Pooling whole coins c.args.radix n l (g.C.Coins.waiting c.shuffled.new.coins)) (sym c.push.ensures.rows)
+          subst (λ (l : List (List ℕ)). Pooling whole coins c.args.radix n l (g.C.Coins.waiting c.shuffled-drawn.new.coins)) (sym c.push.ensures.rows)
           (subst (λ (l : List ℕ). Pooling whole coins c.args.radix n (rows_of c.loop-n.tables.radix c.loop-n.tables.count c.loop-n.tables.forward ++ row ∷ []) l) (sym left) more);
       count = c.push.ensures.more ∙ ap (λ k. k + 1) c.loop-n.invariant.count;
       same = c.push.ensures.same ∙ c.loop-n.invariant.same;
