@@ -21,9 +21,9 @@ impl Sbox {
         if radix < 2 || radix > 4096 {
             return Err(Fault::own(Cause::Range));
         }
-        let mut sbox = Sbox::unmoved(radix);
-        let taken = sbox.shuffle(coins)?;
-        Ok((sbox, taken))
+        let mut drawn = (Sbox::unmoved(radix), 0);
+        drawn.1 = drawn.0.shuffle(coins)?;
+        Ok(drawn)
     }
 
     // The box of a radix that leaves each number where it is.

@@ -28,9 +28,7 @@ impl Pool {
         for (n, row) in rows.chunks_exact(usize::from(radix)).enumerate() {
             // Borrowed, since a box is large to hand on.
             let given = Sbox::from_entries(row);
-            let sbox = given
-                .as_ref()
-                .ok_or(Fault::own(Cause::PoolRow).at(n))?;
+            let sbox = given.as_ref().ok_or(Fault::own(Cause::PoolRow).at(n))?;
             tables.push(sbox);
         }
         Ok(tables.pool(Origin::Given))

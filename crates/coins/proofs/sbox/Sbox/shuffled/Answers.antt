@@ -18,27 +18,27 @@ returns-then-radix-lt2 g c =
 made : (a : ℕ) (coins : List ℕ) (b : Sbox) → Some (entries b) ≡ unmoved a → b.radix ≡ a → swaps (b.radix - 1) (entries b) coins ≡ making a coins
 made a coins b value radix = ap (λ n. swaps (n - 1) (entries b) coins) radix ∙ make_from a coins (entries b) value
 
-pub returns-in_err-taken-clause-value : goal.returns-in_err-taken-clause-value
-returns-in_err-taken-clause-value g c =
+pub returns-in_err-drawn-clause-value : goal.returns-in_err-drawn-clause-value
+returns-in_err-drawn-clause-value g c =
     let coins = g.C.Coins.waiting c.args.coins.now in
-    let same = made c.args.radix coins c.unmoved-sbox.result c.unmoved-sbox.ensures.value c.unmoved-sbox.ensures.radix in
-    ap boxed (handed_err c.from_residual.result c.in_err-taken.field-0.0 c.from_residual.ensures.1) ∙
-    ap (λ r. with_count r (making c.args.radix coins).gone) (sym c.in_err-taken.ensures.value ∙ ap (λ o. o.answer) same)
+    let same = made c.args.radix coins c.unmoved.result c.unmoved.ensures.value c.unmoved.ensures.radix in
+    ap boxed (handed_err c.from_residual.result c.in_err-drawn.field-0.0 c.from_residual.ensures.1) ∙
+    ap (λ r. with_count r (making c.args.radix coins).gone) (sym c.in_err-drawn.ensures.value ∙ ap (λ o. o.answer) same)
 
-pub returns-in_err-taken-clause-after : goal.returns-in_err-taken-clause-after
-returns-in_err-taken-clause-after g c =
+pub returns-in_err-drawn-clause-after : goal.returns-in_err-drawn-clause-after
+returns-in_err-drawn-clause-after g c =
     let coins = g.C.Coins.waiting c.args.coins.now in
-    let same = made c.args.radix coins c.unmoved-sbox.result c.unmoved-sbox.ensures.value c.unmoved-sbox.ensures.radix in
+    let same = made c.args.radix coins c.unmoved.result c.unmoved.ensures.value c.unmoved.ensures.radix in
     c.shuffle.ensures.after ∙ leaves coins same
 
 pub returns-clause-value : goal.returns-clause-value
 returns-clause-value g c =
     let coins = g.C.Coins.waiting c.args.coins.now in
-    let same = made c.args.radix coins c.unmoved-sbox.result c.unmoved-sbox.ensures.value c.unmoved-sbox.ensures.radix in
-    ap counted (sym c.in_ok-taken.ensures.value ∙ same)
+    let same = made c.args.radix coins c.unmoved.result c.unmoved.ensures.value c.unmoved.ensures.radix in
+    ap counted (sym c.in_ok-drawn.ensures.value ∙ same)
 
 pub returns-clause-after : goal.returns-clause-after
 returns-clause-after g c =
     let coins = g.C.Coins.waiting c.args.coins.now in
-    let same = made c.args.radix coins c.unmoved-sbox.result c.unmoved-sbox.ensures.value c.unmoved-sbox.ensures.radix in
+    let same = made c.args.radix coins c.unmoved.result c.unmoved.ensures.value c.unmoved.ensures.radix in
     c.shuffle.ensures.after ∙ leaves coins same
