@@ -1,5 +1,5 @@
 -- How many codes there are, and the loops that count, read and write. Assumes nothing.
-use Rattle.std.specs.Prelude.{◌≡◌, ℕ, suc, ◌+◌, ◌-◌, ◌*◌, ◌/◌, ◌%◌, ◌^◌, ◌<◌, ◌≤◌, List, [], ◌∷◌, ◌++◌, length, take, set, slice_index, slice_index_or, slice_set}
+use Rattle.std.specs.Prelude.{◌≡◌, ℕ, suc, ◌+◌, ◌-◌, ◌*◌, ◌/◌, ◌%◌, ◌^◌, ◌<◌, ◌≤◌, List, [], ◌∷◌, ◌++◌, length, take, set, Some, None, slice_index, slice_index_or, slice_set}
 use Rattle.std.proofs.Math.Path.{sym, ap}
 use Rattle.std.proofs.Common.{◌∙◌, pow-suc}
 use Rattle.std.proofs.Math.Nat.{pow-zero, pow-le-pow_right, div-div-eq-div-mul}
@@ -8,10 +8,12 @@ use Rattle.std.specs.List.{AllByRecursion}
 use Rattle.std.proofs.lemmas.Int.Digits.{number_more, number_lt}
 use Rattle.std.proofs.ByRecursion.{All-get_or, All-take}
 use Rattle.std.proofs.lemmas.List.{append-nil, append_assoc, length-take-le, set_at, take_all, take_more}
+use Rattle.std.proofs.lemmas.Bool.{cond-true, cond-false, le-leb, lt-leb}
 use Rattle.alphabets.specs.declared.alphabet.Alphabet.{Alphabet}
 use Rattle.alphabets.specs.declared.alphabet.Alphabet.TheVariants.{Decimal, Hex, Upper, Alphanumeric}
 use Rattle.alphabets.specs.Alphabets.{radix_of}
-use Rattle.codebook.specs.Numbers.{number, written, most_codes}
+use Rattle.formats.specs.Forms.{Form, code_count}
+use Rattle.codebook.specs.Numbers.{number, written, most_codes, few_codes}
 
 -- each alphabet has at least ten symbols and at most 36
 pub some_symbols : (a : Alphabet) → 10 ≤ radix_of a
@@ -29,6 +31,20 @@ few_symbols Alphanumeric = omega arith
 -- one more factor
 pub power_more : (a i : ℕ) → a ^ i * a ≡ a ^ (i + 1)
 power_more a i = sym (pow-suc a i) ∙ ap (λ m. a ^ m) (omega arith)
+
+-- a power that is too high tells that the count is
+pub too_many : (f : Form) (i : ℕ) → i ≤ f.len → most_codes < radix_of f.alphabet ^ i → None ≡ few_codes f
+unfolding code_count
+too_many f i h more =
+    let some = some_symbols f.alphabet in
+    let up : radix_of f.alphabet ^ i ≤ radix_of f.alphabet ^ f.len = pow-le-pow_right (omega arith) h in
+    sym (cond-false _ _ _ (lt-leb (code_count f) most_codes (omega arith)))
+
+pub few_enough : (f : Form) (i : ℕ) → i ≡ f.len → radix_of f.alphabet ^ i ≤ most_codes → Some (radix_of f.alphabet ^ i) ≡ few_codes f
+unfolding code_count
+few_enough f i e few =
+    let same : radix_of f.alphabet ^ i ≡ radix_of f.alphabet ^ f.len = ap (λ m. radix_of f.alphabet ^ m) e in
+    ap Some same ∙ sym (cond-true _ _ _ (le-leb (code_count f) most_codes (omega arith)))
 
 -- what is read so far leaves room for one more symbol
 pub room_for : (a : ℕ) (c : List ℕ) (i : ℕ) → i < length c → AllByRecursion (λ x. x < a) c → a ^ length c ≤ most_codes →
