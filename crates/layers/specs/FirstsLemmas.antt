@@ -1,5 +1,5 @@
 -- The first of two ciphers: its laws, and a call of it. Assumes nothing.
-use Rattle.std.specs.Prelude.{◌≡◌, ℕ, Bool, true, false, ◌||◌, List, Ok, Err, Result}
+use Rattle.std.specs.Prelude.{◌≡◌, ℕ, Bool, true, false, cond, ◌||◌, List, Ok, Err, Result, refl}
 use Rattle.std.proofs.Common.{sym, ap, ◌∙◌, subst, inl, inr}
 use Rattle.std.proofs.lemmas.Bool.{cases_Bool, cond-true, cond-false, or_left}
 use Rattle.faults.specs.declared.fault.Fault.{Fault}
@@ -69,51 +69,48 @@ first_laws l r left_laws right_laws =
           ];
     }
 
--- the map of the pair, either way, is that of the side that takes the form
-left_goes : (l r : Meaning) (way : Way) (f : Form) (run c : List ℕ) → l.taken f ≡ true → map_of (preferring l r) way f run c ≡ map_of l way f run c
-left_goes l r Forward f run c t = (prefers l r).left_swaps f run c t
-left_goes l r Backward f run c t = (prefers l r).left_back f run c t
-
-right_goes : (l r : Meaning) (way : Way) (f : Form) (run c : List ℕ) → l.taken f ≡ false → map_of (preferring l r) way f run c ≡ map_of r way f run c
-right_goes l r Forward f run c t = (prefers l r).right_swaps f run c t
-right_goes l r Backward f run c t = (prefers l r).right_back f run c t
-
 -- a call, by the side that takes the form
-module _ (l r : Meaning) (way : Way) (f : Form) (run c : List ℕ) where
+module _ (l r : Meaning) (left_go right_go : Form → List ℕ → List ℕ → List ℕ) (f : Form) (run c : List ℕ) where
   abbrev m : Meaning
   m = preferring l r
 
-  abbrev go : Form → List ℕ → List ℕ → List ℕ
-  go = map_of m way
+  abbrev either : Form → List ℕ → List ℕ → List ℕ
+  either h s x = cond (l.taken h) (left_go h s x) (right_go h s x)
 
   module _ (takes : true ≡ l.taken f) where
     left_taken : true ≡ m.taken f
     left_taken = sym (or_left (l.taken f) (r.taken f) (sym takes))
 
-    pub left_refused : {fault : Fault} → Err fault ≡ checked true f run c → swap m go f run c ≡ refused fault
-    left_refused {fault} e = swap_refused m go f run c true left_taken fault e
+    pub left_refused : {fault : Fault} → Err fault ≡ checked true f run c → swap m either f run c ≡ refused fault
+    left_refused {fault} e = swap_refused m either f run c true left_taken fault e
 
     module _ (ok : Ok tt ≡ checked true f run c) where
-      pub left_value : {result : Result Unit Fault} → result ≡ answer (swap l (map_of l way) f run c) → passed_up result ≡ answer (swap m go f run c)
+      pub left_value : {result : Result Unit Fault} → result ≡ answer (swap l left_go f run c) → passed_up result ≡ answer (swap m either f run c)
       left_value is =
-          side_value m l go (map_of l way) f run c ((prefers l r).left_bars f c (sym takes)) (left_goes l r way f run c (sym takes)) true left_taken takes ok is
+          side_value m l either left_go f run c ((prefers l r).left_bars f c (sym takes)) (cond-true (l.taken f) (left_go f run c) (right_go f run c) (sym takes)) true left_taken takes ok is
 
-      pub left_after : {code : List ℕ} → code ≡ left (swap l (map_of l way) f run c) c → code ≡ left (swap m go f run c) c
+      pub left_after : {code : List ℕ} → code ≡ left (swap l left_go f run c) c → code ≡ left (swap m either f run c) c
       left_after is =
-          side_after m l go (map_of l way) f run c ((prefers l r).left_bars f c (sym takes)) (left_goes l r way f run c (sym takes)) true left_taken takes ok is
+          side_after m l either left_go f run c ((prefers l r).left_bars f c (sym takes)) (cond-true (l.taken f) (left_go f run c) (right_go f run c) (sym takes)) true left_taken takes ok is
 
   module _ (out : false ≡ l.taken f) {t : Bool} (takes : t ≡ r.taken f) where
     right_taken : t ≡ m.taken f
     right_taken = takes ∙ sym ((prefers l r).right_takes f (sym out))
 
-    pub right_refused : {fault : Fault} → Err fault ≡ checked t f run c → swap m go f run c ≡ refused fault
-    right_refused {fault} e = swap_refused m go f run c t right_taken fault e
+    pub right_refused : {fault : Fault} → Err fault ≡ checked t f run c → swap m either f run c ≡ refused fault
+    right_refused {fault} e = swap_refused m either f run c t right_taken fault e
 
     module _ (ok : Ok tt ≡ checked t f run c) where
-      pub right_value : {result : Result Unit Fault} → result ≡ answer (swap r (map_of r way) f run c) → passed_up result ≡ answer (swap m go f run c)
+      pub right_value : {result : Result Unit Fault} → result ≡ answer (swap r right_go f run c) → passed_up result ≡ answer (swap m either f run c)
       right_value is =
-          side_value m r go (map_of r way) f run c ((prefers l r).right_bars f c (sym out)) (right_goes l r way f run c (sym out)) t right_taken takes ok is
+          side_value m r either right_go f run c ((prefers l r).right_bars f c (sym out)) (cond-false (l.taken f) (left_go f run c) (right_go f run c) (sym out)) t right_taken takes ok is
 
-      pub right_after : {code : List ℕ} → code ≡ left (swap r (map_of r way) f run c) c → code ≡ left (swap m go f run c) c
+      pub right_after : {code : List ℕ} → code ≡ left (swap r right_go f run c) c → code ≡ left (swap m either f run c) c
       right_after is =
-          side_after m r go (map_of r way) f run c ((prefers l r).right_bars f c (sym out)) (right_goes l r way f run c (sym out)) t right_taken takes ok is
+          side_after m r either right_go f run c ((prefers l r).right_bars f c (sym out)) (cond-false (l.taken f) (left_go f run c) (right_go f run c) (sym out)) t right_taken takes ok is
+
+-- each way, the map of the pair is that of the side that takes the form
+pub by_sides : (l r : Meaning) (way : Way) (f : Form) (run c : List ℕ) →
+    swap (preferring l r) (map_of (preferring l r) way) f run c ≡ swap (preferring l r) (λ h s x. cond (l.taken h) (map_of l way h s x) (map_of r way h s x)) f run c
+by_sides l r Forward f run c = refl
+by_sides l r Backward f run c = refl

@@ -80,15 +80,10 @@ keeps_prefix p m = record {
 rest_is : (p : ℕ) (c : List ℕ) → take (length c - p) (drop p c) ≡ drop p c
 rest_is p c = take_all (length c - p) (drop p c) (omega (arith, length-drop p c))
 
--- the map of the layer, either way
-keeping_goes : (p : ℕ) (m : Meaning) (way : Way) (f : Form) (run c : List ℕ) → map_of (keeping p m) way f run c ≡ take p c ++ map_of m way (shorter p f) run (drop p c)
-keeping_goes p m Forward f run c = refl
-keeping_goes p m Backward f run c = refl
-
 -- a call that the checks refuse
-pub kept_refused : (p : ℕ) (m : Meaning) (way : Way) (f : Form) (run c : List ℕ) → true ≡ (keeping p m).taken f → {fault : Fault} → Err fault ≡ checked true f run c
-    → swap (keeping p m) (map_of (keeping p m) way) f run c ≡ refused fault
-kept_refused p m way f run c takes {fault} e = swap_refused (keeping p m) (map_of (keeping p m) way) f run c true takes fault e
+pub kept_refused : (p : ℕ) (m : Meaning) (go : Form → List ℕ → List ℕ → List ℕ) (f : Form) (run c : List ℕ) → true ≡ (keeping p m).taken f → {fault : Fault} → Err fault ≡ checked true f run c
+    → swap (keeping p m) (λ h r x. take p x ++ go (shorter p h) r (drop p x)) f run c ≡ refused fault
+kept_refused p m go f run c takes {fault} e = swap_refused (keeping p m) (λ h r x. take p x ++ go (shorter p h) r (drop p x)) f run c true takes fault e
 
 -- a prefix fits into a code that passes the checks
 pub fits : (p : ℕ) (m : Meaning) (f : Form) (run c : List ℕ) → true ≡ (keeping p m).taken f → Ok tt ≡ checked true f run c → p ≤ length c
@@ -97,13 +92,10 @@ fits p m f run c takes ok =
     omega (arith, ltb-true p f.len q.0, (passed true f run c ok).code.long)
 
 -- a call on a code that passes the checks, from what the cipher below promised of the rest
-module _ (p : ℕ) (m : Meaning) (way : Way) (f : Form) (run c : List ℕ) (takes : true ≡ (keeping p m).taken f) (ok : Ok tt ≡ checked true f run c)
+module _ (p : ℕ) (m : Meaning) (go : Form → List ℕ → List ℕ → List ℕ) (f : Form) (run c : List ℕ) (takes : true ≡ (keeping p m).taken f) (ok : Ok tt ≡ checked true f run c)
     (g : Form) (is : g ≡ shorter p f) where
-  abbrev go : Form → List ℕ → List ℕ → List ℕ
-  go = map_of m way
-
   abbrev whole_go : Form → List ℕ → List ℕ → List ℕ
-  whole_go = map_of (keeping p m) way
+  whole_go h r x = take p x ++ go (shorter p h) r (drop p x)
 
   abbrev barred : Option ℕ
   barred = m.barred (shorter p f) (drop p c)
@@ -115,7 +107,7 @@ module _ (p : ℕ) (m : Meaning) (way : Way) (f : Form) (run c : List ℕ) (take
   slice = take (length c - p) (drop p c)
 
   above : swap (keeping p m) whole_go f run c ≡ unless_barred (barred_past barred) (take p c ++ image)
-  above = swap_checked (keeping p m) whole_go f run c true takes ok ∙ ap (unless_barred (barred_past barred)) (keeping_goes p m way f run c)
+  above = swap_checked (keeping p m) whole_go f run c true takes ok
 
   below : swap m go g run slice ≡ unless_barred barred image
   below =
@@ -137,3 +129,9 @@ module _ (p : ℕ) (m : Meaning) (way : Way) (f : Form) (run c : List ℕ) (take
       ap (λ x. take p c ++ (x ++ post_of p (length c - p) c)) (after ∙ ap (λ o. left o slice) below ∙ ap (left (unless_barred barred image)) (rest_is p c))
       ∙ up_left barred image (post_of p (length c - p) c) (drop_all (length c - p) (drop p c) (omega (arith, length-drop p c)))
       ∙ sym (ap (λ o. left o c) above)
+
+-- each way, the map of the layer keeps the prefix
+pub kept_either : (p : ℕ) (m : Meaning) (way : Way) (f : Form) (run c : List ℕ) →
+    swap (keeping p m) (map_of (keeping p m) way) f run c ≡ swap (keeping p m) (λ h r x. take p x ++ map_of m way (shorter p h) r (drop p x)) f run c
+kept_either p m Forward f run c = refl
+kept_either p m Backward f run c = refl

@@ -117,7 +117,7 @@ first_some [] h = absurd (omega arith)
 first_some (x ∷ xs) h = refl
 
 -- the digits at even places, counted from 0, are doubled
-by_turns : (i : ℕ) → not (i % 2 == 0) ≡ ((i + 1) % 2 == 0)
+pub by_turns : (i : ℕ) → not (i % 2 == 0) ≡ ((i + 1) % 2 == 0)
 by_turns i =
     elim (cases_eq (i % 2) 0) [
       | inl even ↦ ap not (eq-eqb _ _ even) ∙ sym (ne_eqb ((i + 1) % 2) 0 (λ e. omega arith))
@@ -125,14 +125,13 @@ by_turns i =
     ]
 
 -- one more digit
-pub sum_more : (c : List ℕ) (i sum w : ℕ) → i < length c → w ≡ weight (i % 2 == 0) (slice_index c i) →
-    sum + weighted_sum (i % 2 == 0) (drop i c) ≡ luhn_sum c → sum + w + weighted_sum ((i + 1) % 2 == 0) (drop (i + 1) c) ≡ luhn_sum c
-sum_more c i sum w h e inv =
-    let step = at_drop_more (weighted_sum (i % 2 == 0)) c i 0 h in
-    let turn = ap (λ b. weighted_sum b (drop (i + 1) c)) (by_turns i) in
+pub sum_more : (c : List ℕ) (i sum : ℕ) (doubled : Bool) (w : ℕ) → i < length c → w ≡ weight doubled (slice_index c i) →
+    sum + weighted_sum doubled (drop i c) ≡ luhn_sum c → sum + w + weighted_sum (not doubled) (drop (i + 1) c) ≡ luhn_sum c
+sum_more c i sum doubled w h e inv =
+    let step = at_drop_more (weighted_sum doubled) c i 0 h in
     omega arith
 
-pub sum_all : (c : List ℕ) (i sum : ℕ) → length c ≤ i → sum + weighted_sum (i % 2 == 0) (drop i c) ≡ luhn_sum c → sum ≡ luhn_sum c
-sum_all c i sum h inv =
-    let none = at_drop_all (weighted_sum (i % 2 == 0)) c i h in
+pub sum_all : (c : List ℕ) (i sum : ℕ) (doubled : Bool) → length c ≤ i → sum + weighted_sum doubled (drop i c) ≡ luhn_sum c → sum ≡ luhn_sum c
+sum_all c i sum doubled h inv =
+    let none = at_drop_all (weighted_sum doubled) c i h in
     omega arith
