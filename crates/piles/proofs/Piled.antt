@@ -25,11 +25,11 @@ use Rattle.walk.specs.Walks.{walking}
 use Rattle.walk.specs.Walked.{walk_laws}
 use Rattle.piles.specs.Piles.{if_keepable, nonzero_over_kept_pile, kept_over_first_pile, nonzero_over_luhn_pile}
 
-keepable : (kept : ℕ) (o : Outcome) → Keepable kept → if_keepable kept o ≡ o
+pub keepable : (kept : ℕ) (o : Outcome) → Keepable kept → if_keepable kept o ≡ o
 unfolding if_keepable
 keepable kept o h = cond-true _ o _ (and_from _ _ (le-leb 1 kept h.0) (le-leb kept 31 h.1))
 
-unkeepable : (kept : ℕ) (o : Outcome) → (Keepable kept → ⊥) → if_keepable kept o ≡ refused (own Range)
+pub unkeepable : (kept : ℕ) (o : Outcome) → (Keepable kept → ⊥) → if_keepable kept o ≡ refused (own Range)
 unfolding if_keepable
 unkeepable kept o n =
     ⊎_elim

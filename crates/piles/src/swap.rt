@@ -21,6 +21,7 @@ use walk::cycle::CycleWalk;
 
 // By a walk to codes that do not begin with 0, over a kept prefix, over the network. Refused by itself where the
 // symbols that stay are not 1 to 31.
+#[tactic(auto, using(crate::proofs::Piled::keepable, crate::proofs::Piled::unkeepable))]
 pub fn nonzero_over_kept(
     way: Way,
     kept: u8,
