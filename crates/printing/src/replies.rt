@@ -11,14 +11,16 @@ const MOST_SYMBOLS: usize = 32;
 
 // A line that was done and gives no code.
 pub fn print_ok(lane: Option<u8>) -> Printed
-    ensures { result ≡ ok_line lane }
+    ensures value { result ≡ ok_line lane }
+    ensures short { length result ≤ 48 }
 {
     reply(lane, b"ok")
 }
 
 // A line that gives a code. Of a code that is too long to be one, the first 32 bytes are printed.
 pub fn print_code(lane: Option<u8>, code: &[u8]) -> Printed
-    ensures { result ≡ code_line lane (take 32 code.now) }
+    ensures value { result ≡ code_line lane (take 32 code.now) }
+    ensures short { length result ≤ 48 }
 {
     let most = code.len().min(MOST_SYMBOLS);
     reply(lane, &code[..most])
@@ -27,7 +29,8 @@ pub fn print_code(lane: Option<u8>, code: &[u8]) -> Printed
 // A line that was refused: the number, the place and the depth of its fault.
 // Part by part, not by the fault's `Display`: `write!` promises what was written only where it succeeds.
 pub fn print_fault(lane: Option<u8>, fault: Fault) -> Printed
-    ensures { result ≡ fault_line lane fault }
+    ensures value { result ≡ fault_line lane fault }
+    ensures short { length result ≤ 48 }
 {
     let mut line = begin(lane);
     line.put(b"!");
@@ -49,7 +52,8 @@ pub fn lines_keep_their_laws()
 // A line that says a text on a lane.
 fn reply(lane: Option<u8>, said: &[u8]) -> Printed
     requires { length said.now ≤ 32 }
-    ensures { result ≡ replied lane said.now }
+    ensures value { result ≡ replied lane said.now }
+    ensures short { length result ≤ 48 }
 {
     let mut line = begin(lane);
     line.put(said);

@@ -7,5 +7,5 @@ use Rattle.printing.proofs.replies.print_code.Goals as goal
 front : (code : List ℕ) (n : ℕ) → n ≡ min (length code) 32 → take n code ≡ take 32 code
 front code n e = ap (λ k. take k code) (let z : n ≡ min 32 (length code) = omega arith in z) ∙ take_min 32 code
 
-pub returns : goal.returns
-returns c = c.reply.ensures ∙ ap (replied c.args.lane) (front c.args.code.now c.min-most.result c.min-most.ensures)
+pub returns-clause-value : goal.returns-clause-value
+returns-clause-value c = c.reply.ensures.value ∙ ap (replied c.args.lane) (front c.args.code.now _ (omega (arith, c.min-most.ensures)))
