@@ -38,6 +38,9 @@ by_more : (m : Meaning) (lanes : List (Option Held)) (lines : List (List ℕ)) (
 by_more m lanes [] line = refl
 by_more m lanes (l ∷ lines) line = ap (λ ts. printed_by (gives m lanes) l ∷ ts) (by_more m (lanes_past m lanes (calls_of l)) lines line)
 
+abbrev pub Short : Printed → Type 0
+Short p = length p ≤ 48
+
 -- slots as they came, filled as they stand
 pub record Sofar (m : Meaning) (before after : List (Option Held)) (block : List ℕ) (used i : ℕ) (slots filled : List Printed) : Type 0 where
   pub lines : List (List ℕ)
@@ -48,6 +51,7 @@ pub record Sofar (m : Meaning) (before after : List (Option Held)) (block : List
   pub kept : drop i filled ≡ drop i slots
   pub printed : take i filled ≡ lines_by m before lines
   pub lanes : after ≡ lanes_after m before lines
+  pub short : AllByRecursion Short (take i filled)
   pub follows : (h : List Call) → Through m before h → Through m after (heard h lines) × (take i filled ≡ printed_lines m h lines)
 
 module _ (m : Meaning) (before now : List (Option Held)) (block : List ℕ) (used i : ℕ) (slots filled : List Printed) (so : Sofar m before now block used i slots filled) where
@@ -63,6 +67,7 @@ module _ (m : Meaning) (before now : List (Option Held)) (block : List ℕ) (use
     kept = so.kept;
     printed = so.printed;
     lanes = so.lanes;
+    short = so.short;
     follows = so.follows;
   }
 
@@ -86,6 +91,7 @@ module _ (m : Meaning) (before now : List (Option Held)) (block : List ℕ) (use
             ∙ ap (λ x. lines_by m before so.lines ++ (x ∷ [])) (a.printed ∙ ap (λ ls. printed_by (gives m ls) line) so.lanes)
             ∙ sym (by_more m before so.lines line);
         lanes = a.lanes ∙ ap (λ ls. lanes_past m ls (calls_of line)) so.lanes ∙ sym (lanes_more m before so.lines line);
+        short = subst (AllByRecursion Short) (sym front) (All-push Short (take i filled) p so.short a.short);
         follows = λ h through.
             let x = so.follows h through in
             let y = a.follows (heard h so.lines) x.0 in (

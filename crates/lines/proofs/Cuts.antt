@@ -119,6 +119,7 @@ module _ (m : Meaning) (before after : List (Option Held)) (k : ℕ) (t : List �
   swap_cut Forward a = record {
     printed = a.printed ∙ line_alike k _ _ (take 33 t) t (asked_lane m m.forward t k (lane_at before k));
     lanes = a.lanes;
+    short = a.short;
     follows = λ h through.
         let x = a.follows h through in (
           record { eight = x.0.eight; each = x.0.each; sound = x.0.sound },
@@ -128,6 +129,7 @@ module _ (m : Meaning) (before after : List (Option Held)) (k : ℕ) (t : List �
   swap_cut Backward a = record {
     printed = a.printed ∙ line_alike k _ _ (take 33 t) t (asked_lane m m.backward t k (lane_at before k));
     lanes = a.lanes;
+    short = a.short;
     follows = λ h through.
         let x = a.follows h through in (
           record { eight = x.0.eight; each = x.0.each; sound = x.0.sound },
@@ -136,7 +138,7 @@ module _ (m : Meaning) (before after : List (Option Held)) (k : ℕ) (t : List �
   }
 
 -- a swap that a coder answered, with the text that it leaves, of which 32 bytes are printed
-module _ {T : Type 0} (meaning : T → Meaning) (before after : Coder T) (k : ℕ) (t text : List ℕ) (r : Result Unit Fault) (p : Printed) (same_length : length text ≡ length t) (says : p ≡ swap_line k r (take 32 text)) where
+module _ {T : Type 0} (meaning : T → Meaning) (before after : Coder T) (k : ℕ) (t text : List ℕ) (r : Result Unit Fault) (p : Printed) (same_length : length text ≡ length t) (says : p ≡ swap_line k r (take 32 text)) (short : length p ≤ 48) where
   abbrev m : Meaning
   m = meaning before.cipher
 
@@ -155,12 +157,12 @@ module _ {T : Type 0} (meaning : T → Meaning) (before after : Coder T) (k : �
 
   pub swap_said : (way : Way) → Called meaning before after (turns way k t) reply → Answered meaning before after (Some (asked way k t)) p
   swap_said Forward c = record {
-    answered = made m before.lanes after.lanes (Some (mask k t)) p (masks k t) (λ y. swap_line k y.answer y.text) reply refl (λ say. refl)
+    answered = made m before.lanes after.lanes (Some (mask k t)) p short (masks k t) (λ y. swap_line k y.answer y.text) reply refl (λ say. refl)
         (ap (λ y. swap_line k y.answer y.text) c.reply) c.lanes c.follows (printed m.forward (ap (λ y. y.answer) c.reply));
     same = c.same;
   }
   swap_said Backward c = record {
-    answered = made m before.lanes after.lanes (Some (unmask k t)) p (unmasks k t) (λ y. swap_line k y.answer y.text) reply refl (λ say. refl)
+    answered = made m before.lanes after.lanes (Some (unmask k t)) p short (unmasks k t) (λ y. swap_line k y.answer y.text) reply refl (λ say. refl)
         (ap (λ y. swap_line k y.answer y.text) c.reply) c.lanes c.follows (printed m.backward (ap (λ y. y.answer) c.reply));
     same = c.same;
   }

@@ -1,5 +1,5 @@
 -- A command whose call was made, or that makes none. Assumes nothing.
-use Rattle.std.proofs.Common.{◌≡◌, ℕ, List, [], ◌∷◌, Option, sym, ap, ◌∙◌, subst}
+use Rattle.std.proofs.Common.{◌≡◌, ℕ, ◌≤◌, List, [], ◌∷◌, length, Option, sym, ap, ◌∙◌, subst}
 use Rattle.ciphers.specs.Meanings.{Meaning}
 use Rattle.coder.specs.Calls.{Call, Reply}
 use Rattle.coder.specs.Handed.{Through, Follows}
@@ -11,7 +11,7 @@ use Rattle.printing.specs.declared.printed.Printed.{Printed}
 use Rattle.lines.specs.LineReplies.{calls_in, printed_in, machine}
 use Rattle.lines.specs.Answers.{gives, lanes_past, AnsweredBy}
 
-module _ (m : Meaning) (before after : List (Option Held)) (w : Option Spelled) (p : Printed) where
+module _ (m : Meaning) (before after : List (Option Held)) (w : Option Spelled) (p : Printed) (short : length p ≤ 48) where
   -- `line` is what is printed for a reply
   pub made : (c : Call) (line : Reply → List ℕ) (x : Reply) → calls_in w ≡ c ∷ []
       → ((say : Call → Reply) → line (say c) ≡ printed_in say w)
@@ -20,6 +20,7 @@ module _ (m : Meaning) (before after : List (Option Held)) (w : Option Spelled) 
   made c line x calls law is lanes follows holds = record {
     printed = holds ∙ is ∙ law (gives m before);
     lanes = lanes ∙ ap (lanes_past m before) (sym calls);
+    short = short;
     follows = λ h through.
         let f = follows h through in
         (subst (λ cs. Through m after (past cs h)) (sym calls) f.0, holds ∙ ap line f.1 ∙ law (machine m h));
@@ -30,6 +31,7 @@ module _ (m : Meaning) (before after : List (Option Held)) (w : Option Spelled) 
   unmade line calls law lanes holds = record {
     printed = holds ∙ law (gives m before);
     lanes = lanes ∙ ap (lanes_past m before) (sym calls);
+    short = short;
     follows = λ h through.
         (subst (λ cs. Through m after (past cs h)) (sym calls) (subst (λ ls. Through m ls h) (sym lanes) through), holds ∙ law (machine m h));
   }

@@ -5,7 +5,7 @@
 --   Answered      the same of a coder
 --   AnsweredLine  a line is answered
 --   asked         the command of a swap
-use Rattle.std.specs.Prelude.{◌≡◌, ℕ, List, [], ◌∷◌, Option}
+use Rattle.std.specs.Prelude.{◌≡◌, ℕ, ◌≤◌, List, [], ◌∷◌, length, Option}
 use Rattle.ciphers.specs.declared.way.Way.{Way}
 use Rattle.ciphers.specs.declared.way.Way.TheVariants.{Forward, Backward}
 use Rattle.ciphers.specs.Meanings.{Meaning}
@@ -30,6 +30,8 @@ pub record AnsweredBy (m : Meaning) (before after : List (Option Held)) (command
   -- whatever the lanes hold: the bytes printed, and the lanes then
   pub printed : p ≡ printed_in (gives m before) command
   pub lanes : after ≡ lanes_past m before (calls_in command)
+  -- no line is longer than a line to print has room for
+  pub short : length p ≤ 48
   -- a coder that was handed on through the calls of h prints what the reference machine has for the command, and is
   -- handed on through the call that it asks for
   pub follows : (h : List Call) → Through m before h → Through m after (past (calls_in command) h) × (p ≡ printed_in (machine m h) command)

@@ -62,6 +62,7 @@ pub record BlockBy (m : Meaning) (before after : List (Option Held)) (block : Li
   -- whatever the lanes hold: the bytes printed, and the lanes then
   pub printed : take count filled ≡ lines_by m before lines
   pub lanes : after ≡ lanes_after m before lines
+  pub short : AllByRecursion (λ p. length p ≤ 48) (take count filled)
   -- a coder that was handed on through the calls of h prints what the reference machine has for the lines, and is
   -- handed on through the calls that they spell
   pub follows : (h : List Call) → Through m before h → Through m after (heard h lines) × (take count filled ≡ printed_lines m h lines)

@@ -1,5 +1,7 @@
 // The calls that commands ask for, and the lines to print for them.
-ghost use Rattle.std.specs.Prelude.{Some, ◌≡◌};
+ghost use Rattle.std.specs.Prelude.{Some, ◌≡◌, ◌≤◌, length};
+ghost use Rattle.coder.specs.Called.{Called};
+ghost use Rattle.coder.specs.Calls.{turns};
 ghost use Rattle.commands.specs.Commands.{start, as_spelled};
 ghost use Rattle.lines.specs.Answers.{Answered, asked};
 ghost use Rattle.lines.specs.LineReplies.{done_line};
@@ -55,7 +57,7 @@ fn read_and_start<T: FormatCipher>(
     run: &[u8],
     shape: &[u8],
 ) -> Result<(), Fault>
-    ensures { (p : Printed) → p ≡ done_line (Some lane) result
+    ensures { (p : Printed) → p ≡ done_line (Some lane) result → length p ≤ 48
         → Answered T.FormatCipher.meaning coder.old coder.new (Some (start lane run.now shape.now)) p }
 {
     coder.start(lane, run, &Shape::read(shape)?)
@@ -74,6 +76,21 @@ fn answer_swap<T: FormatCipher>(coder: &mut Coder<T>, way: Way, lane: u8, code: 
 fn swap_text<T: FormatCipher>(coder: &mut Coder<T>, way: Way, lane: u8, text: &mut [u8]) -> Printed
     ensures { Answered T.FormatCipher.meaning coder.old coder.new (Some (asked way lane text.old)) result }
 {
-    let answer = coder.swap(way, lane, text);
+    let answer = call_swap(coder, way, lane, text);
     say_swapped(lane, answer, text)
+}
+
+// The call of a swap: a mask or an unmask, by its way.
+fn call_swap<T: FormatCipher>(
+    coder: &mut Coder<T>,
+    way: Way,
+    lane: u8,
+    text: &mut [u8],
+) -> Result<(), Fault>
+    ensures { Called T.FormatCipher.meaning coder.old coder.new (turns way lane text.old) (record { answer = result; text = text.new }) }
+{
+    match way {
+        Way::Forward => coder.mask(lane, text),
+        Way::Backward => coder.unmask(lane, text),
+    }
 }

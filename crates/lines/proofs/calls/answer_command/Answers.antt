@@ -12,7 +12,7 @@ returns-in-End g c =
     let x : Reply = record { answer = c.end.result; text = [] } in
     let e = c.in-End.is in
     record {
-      answered = made m c.args.coder.now.lanes c.end.new.self.lanes (Some (as_spelled c.args.command)) c.say_done.result (ends k) (λ r. done_line (Some k) r.answer) x
-          (ap (λ w. calls_in (Some (as_spelled w))) e) (λ say. sym (ap (λ w. printed_in say (Some (as_spelled w))) e)) (ap (λ r. done_line (Some k) r.answer) c.end.ensures.reply) c.end.ensures.lanes c.end.ensures.follows c.say_done.ensures;
+      answered = made m c.args.coder.now.lanes c.end.new.self.lanes (Some (as_spelled c.args.command)) c.say_done.result c.say_done.ensures.short (ends k) (λ r. done_line (Some k) r.answer) x
+          (ap (λ w. calls_in (Some (as_spelled w))) e) (λ say. sym (ap (λ w. printed_in say (Some (as_spelled w))) e)) (ap (λ r. done_line (Some k) r.answer) c.end.ensures.reply) c.end.ensures.lanes c.end.ensures.follows c.say_done.ensures.value;
       same = c.end.ensures.same;
     }

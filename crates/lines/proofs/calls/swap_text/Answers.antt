@@ -4,5 +4,5 @@ use Rattle.lines.proofs.calls.swap_text.Goals as goal
 
 pub returns : goal.returns
 returns g c =
-    swap_said g.T.FormatCipher.meaning c.args.coder.now c.swap-answer.new.self c.args.lane c.args.text.now c.swap-answer.new.text c.swap-answer.result c.say_swapped.result
-    (omega arith) c.say_swapped.ensures c.args.way c.swap-answer.ensures
+    swap_said g.T.FormatCipher.meaning c.args.coder.now c.call_swap-answer.new.coder c.args.lane c.args.text.now c.call_swap-answer.new.text c.call_swap-answer.result c.say_swapped.result
+    (omega arith) c.say_swapped.ensures.value c.say_swapped.ensures.short c.args.way c.call_swap-answer.ensures
