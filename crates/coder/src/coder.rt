@@ -1,9 +1,7 @@
 // The coder: a cipher, and eight lanes that each may be under a run and a shape.
-ghost use Rattle.std.specs.Prelude.{◌≡◌, [], replicate, None, Ok};
-ghost use Rattle.formats.specs.Shapes.{form};
-ghost use Rattle.coder.specs.Calls.{starts, ends, masks, unmasks, restarts, turns};
-ghost use Rattle.coder.specs.Handed.{Through};
-ghost use Rattle.coder.specs.Called.{Called};
+ghost use Rattle.std.specs.Prelude.{◌≡◌, true, length};
+ghost use Rattle.std.specs.List.{list_all};
+ghost use Rattle.coder.specs.Records.{short_run};
 
 use crate::lane::Lane;
 use crate::lanes::Lanes;
@@ -21,9 +19,17 @@ use formats::shape::Shape;
 pub struct Coder<T> {
     cipher: T,
     lanes: Lanes,
+    pub ghost eight: { length lanes ≡ 8 },
+    pub ghost short: { list_all short_run lanes ≡ true },
 }
 
 impl<T: FormatCipher> Coder<T> {
+    ghost use Rattle.std.specs.Prelude.{[], replicate, None, Ok};
+    ghost use Rattle.formats.specs.Shapes.{form};
+    ghost use Rattle.coder.specs.Calls.{starts, ends, masks, unmasks, restarts, turns};
+    ghost use Rattle.coder.specs.Handed.{Through};
+    ghost use Rattle.coder.specs.Called.{Called};
+
     // A coder over a cipher. No lane has a run.
     pub fn new(cipher: T) -> Coder<T>
         ensures cipher { result.cipher ≡ cipher }

@@ -1,4 +1,5 @@
-use Rattle.std.proofs.Common.{◌-◌, set, Some, Err, cond, sym, refl, ap, ◌∙◌}
+use Rattle.std.proofs.Common.{◌-◌, length, set, Some, Err, cond, sym, refl, ap, ◌∙◌, length-set}
+use Rattle.std.specs.List.{list_all}
 use Rattle.std.proofs.lemmas.Bool.{cond-true, cond-false}
 use Rattle.std.proofs.lemmas.Result.{err_from_is_err_and}
 use Rattle.faults.specs.declared.fault.Cause.TheVariants.{Lane, RunName, LaneHasRun, ShapeNotTaken}
@@ -8,12 +9,23 @@ use Rattle.alphabets.specs.RunNames.{legal}
 use Rattle.ciphers.specs.Swaps.{refused}
 use Rattle.coder.specs.Calls.{starts, done}
 use Rattle.coder.specs.Machine.{held_of, if_free}
-use Rattle.coder.specs.Records.{named}
+use Rattle.coder.specs.Records.{named, short_run}
 use Rattle.coder.specs.Steps.{lane_at}
 use Rattle.coder.proofs.Asked.{on_it, off_it, taken_lane, free_lane}
 use Rattle.coder.proofs.Followed.{refused_call, done_call}
 use Rattle.coder.proofs.Handed.{remakes}
+use Rattle.coder.proofs.Records.{short_named, short_set}
 use Rattle.coder.proofs.coder.Coder.start.Goals as goal
+
+pub invariant_of-self : goal.invariant_of-self
+invariant_of-self g c =
+    let now = c.args.self.now in
+    let place = c.in_ok-lane.lane.number - 1 in
+    let made = c.new-3.result in
+    record {
+      eight = ap length c.set.ensures ∙ length-set now.lanes place (Some (named made)) ∙ now.eight;
+      short = ap (list_all short_run) c.set.ensures ∙ short_set now.lanes place (Some (named made)) now.short (short_named made);
+    }
 
 pub returns-in_err-lane : goal.returns-in_err-lane
 returns-in_err-lane g c =
@@ -74,7 +86,7 @@ returns g c =
     let f = form c.args.shape.now in
     let at_last = cond (m.taken f) done (refused (own ShapeNotTaken)) in
     let if_named = if_free (lane_at lanes k) at_last in
-    done_call g.T.FormatCipher.meaning c.args.self.now (record { cipher = c.args.self.now.cipher; lanes = c.set.new.self }) (starts k run f) (remakes c.args.shape.now)
+    done_call g.T.FormatCipher.meaning c.args.self.now _ (starts k run f) (remakes c.args.shape.now)
     (on_it k (cond (legal run) if_named (refused (own RunName))) c.in_ok-lane.ensures.0
     ∙ cond-true (legal run) if_named (refused (own RunName)) c.in_ok-name.ensures.1
     ∙ free_lane c.at.result (lane_at lanes k) at_last (c.at.ensures ∙ ap (lane_at lanes) c.in_ok-lane.ensures.1) (sym c.if-is_some.ensures)

@@ -78,5 +78,5 @@ returns g c =
     let after = c.swap-below.ensures.after in
     let back = c.to_text.ensures.after in
     let up = c.pass_up.ensures in
-    turned g.T.FormatCipher.meaning c.args.self.now (record { cipher = c.swap-below.new.cipher; lanes = lanes }) c.args.way k t c.pass_up.result c.to_text.new.code
+    turned g.T.FormatCipher.meaning c.args.self.now _ c.args.way k t c.pass_up.result c.to_text.new.code
     (cc) (cc) refl c.swap-below.ensures.same
