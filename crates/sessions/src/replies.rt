@@ -35,10 +35,13 @@ impl<'a, W: Write> Replies<'a, W> {
         Ok(())
     }
 
-    // Writes all that waits.
+    // Writes all that waits. Where nothing does, the output is not called.
     pub(crate) fn write(&mut self) -> io::Result<()>
         ensures { OnOk result (self.new.waiting.items ≡ []) }
     {
+        if self.waiting.is_empty() {
+            return Ok(());
+        }
         self.output.write_all(self.waiting.as_slice())?;
         self.waiting.clear();
         Ok(())

@@ -1,4 +1,5 @@
 // A session: what its first line opened, and the lanes over it.
+ghost use Rattle.std.specs.Prelude.{◌≤◌, length};
 ghost use Rattle.commands.specs.Openings.{opening};
 ghost use Rattle.sessions.specs.Sessions.{LedTo, Opened};
 
@@ -25,7 +26,8 @@ pub enum Session {
 
 // The session that a first line begins, unless it is refused, and the line to print for it.
 pub fn open_session(line: &[u8]) -> (Option<Session>, Printed)
-    ensures { Opened (opening line.now) result.0 result.1 }
+    ensures opened { Opened (opening line.now) result.0 result.1 }
+    ensures short { length result.1 ≤ 48 }
 {
     match open(line) {
         Ok(session) => (Some(session), print_ok(None)),
