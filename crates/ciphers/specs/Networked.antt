@@ -1,10 +1,10 @@
 -- The network's laws, its branch distances and its index sequences. Assumes nothing.
-use Rattle.std.specs.Prelude.{◌≡◌, ℕ, zero, suc, ◌+◌, ◌-◌, ◌*◌, ◌/◌, ◌<◌, ◌≤◌, true, T, List, ◌==◌, nat_le, nat_lt, refl}
+use Rattle.std.specs.Prelude.{◌≡◌, ℕ, zero, suc, ◌+◌, ◌-◌, ◌*◌, ◌/◌, ◌<◌, ◌≤◌, true, ◌&&◌, T, List, length, Ok, Err, Result, ◌==◌, nat_le, nat_lt, refl}
 use Rattle.std.proofs.Common.{sym, ap, subst, ◌∙◌, mul-le-mul_right, one-mul, arith, ltb→lt}
 use Rattle.std.proofs.Math.Nat.{mul-mod_left}
 use Rattle.std.specs.List.{AllByRecursion}
 use Rattle.std.proofs.ByRecursion.{All-append, All-take}
-use Rattle.std.proofs.lemmas.Bool.{and_parts, and_from, eqb-true, leb-true, le-leb, eq-eqb}
+use Rattle.std.proofs.lemmas.Bool.{and_parts, and_from, eqb-true, leb-true, le-leb, eq-eqb, cond-true}
 use Rattle.block_cipher.specs.Cmac.{cmac}
 use Rattle.block_cipher.specs.Counter.{counter_block}
 use Rattle.block_cipher.proofs.Bytes.{Bytes, counter_bytes, cmac_bytes, mac_key_bytes}
@@ -15,8 +15,12 @@ use Rattle.alphabets.specs.Alphabets.{radix_of}
 use Rattle.formats.specs.Codes.{Code}
 use Rattle.formats.specs.Forms.{Form, least_of, layers_of, Exists}
 use Rattle.formats.specs.LeastRounds.{least, tabled, column_below, column_above}
+use Rattle.faults.specs.declared.fault.Cause.TheVariants.{Range}
+use Rattle.faults.specs.declared.fault.Fault.{Fault}
+use Rattle.faults.specs.Faults.{own}
 use Rattle.keys.specs.Derived.{derived_key}
-use Rattle.keys.specs.Distances.{w_of, w'_of}
+use Rattle.keys.specs.declared.distances.Distances.{Distances}
+use Rattle.keys.specs.Distances.{w_of, w'_of, distances, distances_of}
 use Rattle.keys.specs.Encodings.{Purpose, encode}
 use Rattle.keys.specs.Sequences.{index_sequence, sequence_list, first_half, start_of, blocks, stream, sized}
 use Rattle.pools.specs.declared.pool.Pool.{Pool}
@@ -117,6 +121,26 @@ sized_form a f least most two is =
     and_from _ _ (and_from _ _ (le-leb 4 a least) (le-leb a 64 most))
     (and_from _ _ (and_from _ _ (le-leb 2 f.len two) (le-leb f.len 32 is.short))
     (and_from _ _ (eq-eqb _ 0 (mul-mod_left f.rounds f.len)) (and_from _ _ (le-leb f.len (layers_of f) (omega (arith, wide, one-mul f.len))) (le-leb (layers_of f) 2048 is.few))))
+
+-- a length from 2 to 32 has distances
+pub in_range : (len : ℕ) → 2 ≤ len → len ≤ 32 → distances_of len ≡ Ok (distances len)
+in_range len two short = cond-true (nat_le 2 len && nat_le len 32) (Ok (distances len)) (Err (own Range)) (and_from _ _ (le-leb 2 len two) (le-leb len 32 short))
+
+-- the distances that were answered are those of the length
+pub measured : (len : ℕ) (d : Distances) → 2 ≤ len → len ≤ 32 → Ok d ≡ distances_of len → (d.w ≡ w_of len) × (d.w_prime ≡ w'_of len)
+measured len d two short e =
+    let is : ◌≡◌ {A = Result Distances Fault} (Ok d) (Ok (distances len)) = e ∙ in_range len two short in
+    let same : d ≡ distances len = cc in
+    (ap (λ x. x.w) same, ap (λ x. x.w_prime) same)
+
+module _ (net : Network) (f : Form) (t : (networked net).taken f ≡ true) (is : Exists f) (len : ℕ) (d : Distances) (el : len ≡ f.len) (ed : Ok d ≡ distances_of len) where
+  of_form : (d.w ≡ w_of f.len) × (d.w_prime ≡ w'_of f.len)
+  of_form = measured f.len d (two_symbols net f t) is.short (ed ∙ ap distances_of el)
+
+  pub near_code : (code : List ℕ) → Code f code → Near (length code) d.w d.w_prime
+  near_code code c =
+      subst (λ (n : ℕ). Near n d.w d.w_prime) (sym c.long)
+      (subst (λ (n : ℕ). Near f.len n d.w_prime) (sym of_form.0) (subst (λ (n : ℕ). Near f.len (w_of f.len) n) (sym of_form.1) (near f.len (two_symbols net f t))))
 
 -- a code of a taken form is a string of symbols
 pub symbols_code : (net : Network) (f : Form) → (networked net).taken f ≡ true → (code : List ℕ) → Code f code → Symbols net.radix f.len code

@@ -3,7 +3,7 @@ ghost use Rattle.std.specs.Prelude.{◌≡◌, ◌≤◌};
 ghost use Rattle.keys.specs.Distances.{w_of, w'_of};
 ghost use Rattle.ciphers.specs.Layers.{Near};
 
-use keys::distances::Distances;
+use keys::distances::branch_distances;
 
 // The length of a code, with its branch distances: a layer looks w symbols ahead of the first, and v behind the end.
 #[derive(Clone, Copy)]
@@ -23,7 +23,7 @@ impl Reach {
         ensures w { result.w ≡ w_of len }
         ensures v { result.v ≡ w'_of len }
     {
-        let distances = Distances::of(len);
+        let distances = branch_distances(len).unwrap();
         Reach {
             len: len as usize,
             w: distances.w as usize,
