@@ -32,14 +32,13 @@ impl<C: Drop> Ready<C> {
     }
 }
 
-impl<C: FormatCipher + Drop> Ready<C> {
+impl<C: FormatCipher> Ready<C> {
     // Swaps a code by the cipher, under one run after the other.
-    pub(crate) fn swap(self, way: Way, runs: &[Run], code: &mut [u8]) -> Result<(), Fault>
-        ensures value { result ≡ (by_ready C.FormatCipher.meaning way self runs.now code.old).answer }
-        ensures after { code.new ≡ (by_ready C.FormatCipher.meaning way self runs.now code.old).code }
+    pub(crate) fn swap(&mut self, way: Way, runs: &[Run], code: &mut [u8]) -> Result<(), Fault>
+        ensures value { result ≡ (by_ready C.FormatCipher.meaning way self.old runs.now code.old).answer }
+        ensures after { code.new ≡ (by_ready C.FormatCipher.meaning way self.old runs.now code.old).code }
     {
-        let Ready { mut cipher, shape } = self;
-        swap_under(&mut cipher, way, &shape, runs, code)
+        swap_under(&mut self.cipher, way, &self.shape, runs, code)
     }
 }
 
