@@ -24,7 +24,7 @@ fn reply(rt: &HostRuntime, line: &[u8]) -> io::Result<()> {
         return print(rt, line);
     }
     let Some(request) = Request::read(line) else {
-        return print(rt, b"unreadable");
+        return rt.println("unreadable");
     };
     match answer(rt.alloc(), &request) {
         Ok(words) => print(rt, words.as_slice()),
