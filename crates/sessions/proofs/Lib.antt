@@ -1,3 +1,3 @@
-mod Begun
+pub mod Begun
 mod Cuts
 mod Fronts

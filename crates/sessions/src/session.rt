@@ -25,6 +25,7 @@ pub enum Session {
 }
 
 // The session that a first line begins, unless it is refused, and the line to print for it.
+#[tactic(auto, using(crate::proofs::Begun::begun, crate::proofs::Begun::refused))]
 pub fn open_session(line: &[u8]) -> (Option<Session>, Printed)
     ensures opened { Opened (opening line.now) result.0 result.1 }
     ensures short { length result.1 ≤ 48 }
