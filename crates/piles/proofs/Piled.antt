@@ -21,9 +21,9 @@ use Rattle.layers.specs.Keeps.{Keepable, keeping}
 use Rattle.layers.specs.FirstsLemmas.{first_laws}
 use Rattle.layers.specs.KeepsLemmas.{keep_laws}
 use Rattle.rules.specs.Rules.{leads_nonzero, passes_luhn}
-use Rattle.walk.specs.Walks.{walking}
+use Rattle.walk.specs.Walks.{Allowed, walking}
 use Rattle.walk.specs.Walked.{walk_laws}
-use Rattle.piles.specs.Piles.{if_keepable, nonzero_over_kept_pile, kept_over_first_pile, nonzero_over_luhn_pile}
+use Rattle.piles.specs.Piles.{if_keepable, nonzero_over_kept_pile, kept_over_first_pile, over_first_pile, nonzero_over_luhn_pile}
 
 pub keepable : (kept : ℕ) (o : Outcome) → Keepable kept → if_keepable kept o ≡ o
 unfolding if_keepable
@@ -60,9 +60,11 @@ module _ (kept : ℕ) (m : Meaning) (pick : Meaning → Form → List ℕ → Li
 pub same_kept : (p kept : ℕ) (a network : Fast) → p ≡ kept → a ≡ network → nonzero_over_kept_pile p (network_of a) ≡ nonzero_over_kept_pile kept (network_of network)
 same_kept p kept a network ep ea = ap (λ n. nonzero_over_kept_pile n (network_of a)) ep ∙ ap (λ x. nonzero_over_kept_pile kept (network_of x)) ea
 
-pub same_first : (p kept : ℕ) (a walked b other : Codebook) → p ≡ kept → a ≡ walked → b ≡ other → kept_over_first_pile p (book a) (book b) ≡ kept_over_first_pile kept (book walked) (book other)
-same_first p kept a walked b other ep ea eb =
-    ap (λ n. kept_over_first_pile n (book a) (book b)) ep ∙ ap (λ x. kept_over_first_pile kept (book x) (book b)) ea ∙ ap (λ y. kept_over_first_pile kept (book walked) (book y)) eb
+pub same_first : (p kept : ℕ) (a walked : Codebook) (s allowed : Allowed) (b other : Codebook) → p ≡ kept → a ≡ walked → s ≡ allowed → b ≡ other →
+    over_first_pile p (book a) s (book b) ≡ over_first_pile kept (book walked) allowed (book other)
+same_first p kept a walked s allowed b other ep ea es eb =
+    ap (λ n. over_first_pile n (book a) s (book b)) ep ∙ ap (λ x. over_first_pile kept (book x) s (book b)) ea ∙
+    ap (λ u. over_first_pile kept (book walked) u (book b)) es ∙ ap (λ y. over_first_pile kept (book walked) allowed (book y)) eb
 
 pub nonzero_over_kept_laws : (kept : ℕ) (network : Fast) → Laws (nonzero_over_kept_pile kept (network_of network))
 nonzero_over_kept_laws kept network =

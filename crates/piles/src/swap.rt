@@ -6,7 +6,7 @@ ghost use Rattle.ciphers.specs.Held.{network_of};
 ghost use Rattle.ciphers.specs.Swaps.{swap, answer, left};
 ghost use Rattle.ciphers.specs.Ways.{map_of};
 ghost use Rattle.codebook.specs.Codebooks.{book};
-ghost use Rattle.piles.specs.Piles.{if_keepable, nonzero_over_kept_pile, kept_over_first_pile, nonzero_over_luhn_pile};
+ghost use Rattle.piles.specs.Piles.{if_keepable, nonzero_over_kept_pile, kept_over_first_pile, over_first_pile, nonzero_over_luhn_pile};
 
 use ciphers::fast::Fast;
 use ciphers::way::{Way, swap};
@@ -17,6 +17,7 @@ use layers::first_of::FirstOf;
 use layers::keep_prefix::KeepPrefix;
 use rules::luhn::Luhn;
 use rules::nonzero_lead::NonzeroLead;
+use rules::rule::Rule;
 use walk::cycle::CycleWalk;
 
 // By a walk to codes that do not begin with 0, over a kept prefix, over the network. Refused by itself where the
@@ -52,10 +53,7 @@ pub fn kept_over_first(
     ensures value { let pile = kept_over_first_pile kept (book walked) (book other) in result ≡ answer (if_keepable kept (swap pile (map_of pile way) (form shape.now) run.now code.old)) }
     ensures after { let pile = kept_over_first_pile kept (book walked) (book other) in code.new ≡ left (if_keepable kept (swap pile (map_of pile way) (form shape.now) run.now code.old)) code.old }
 {
-    let walk = CycleWalk::new(walked, Luhn);
-    let first = FirstOf::new(walk, other);
-    let mut keep = KeepPrefix::new(kept, first)?;
-    swap(&mut keep, way, shape, run, code)
+    over_first(way, kept, walked, Luhn, other, shape, run, code)
 }
 
 // By a walk to codes that do not begin with 0, over a walk to codes that pass the Luhn test, over the network.
@@ -71,6 +69,26 @@ pub fn nonzero_over_luhn(
 {
     let mut outer = walk_twice(network);
     swap(&mut outer, way, shape, run, code)
+}
+
+// The same pile, with a walk to codes that any rule allows.
+fn over_first<R: Rule + Drop>(
+    way: Way,
+    kept: u8,
+    walked: Codebook,
+    rule: R,
+    other: Codebook,
+    shape: &Shape,
+    run: &[u8],
+    code: &mut [u8],
+) -> Result<(), Fault>
+    ensures value { let pile = over_first_pile kept (book walked) (R.Rule.allowed rule) (book other) in result ≡ answer (if_keepable kept (swap pile (map_of pile way) (form shape.now) run.now code.old)) }
+    ensures after { let pile = over_first_pile kept (book walked) (R.Rule.allowed rule) (book other) in code.new ≡ left (if_keepable kept (swap pile (map_of pile way) (form shape.now) run.now code.old)) code.old }
+{
+    let walk = CycleWalk::new(walked, rule);
+    let first = FirstOf::new(walk, other);
+    let mut keep = KeepPrefix::new(kept, first)?;
+    swap(&mut keep, way, shape, run, code)
 }
 
 // A walk to codes that do not begin with 0, over a walk to codes that pass the Luhn test, over the network.
